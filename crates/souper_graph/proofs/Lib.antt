@@ -4,7 +4,7 @@ pub mod Sameness
 pub mod Conditions
 pub mod Order
 pub mod Judging
-pub mod FormsAgree
+pub mod Forms
 pub mod RoundTrip
 pub mod Lefts
 pub mod Results

@@ -4,4 +4,3 @@ pub mod Tokens
 pub mod TokenLaws
 pub mod Numbers
 pub mod Spelling
-pub mod Forms

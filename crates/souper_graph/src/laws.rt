@@ -8,9 +8,7 @@ ghost use Rattle.souper_graph.specs.Unneeded.{EachClosed, AllNeeded, SameNeeded}
 ghost use Rattle.souper_graph.specs.Text.{text_of, texts_of};
 ghost use Rattle.souper_graph.specs.CanonicalText.{IsRearranged, HasConditionLines};
 ghost use Rattle.souper_graph.specs.ItemText.{AreWellFormed};
-ghost use Rattle.souper_graph.specs.Syntax.Tokens.{Lexeme};
-ghost use Rattle.souper_graph.specs.Syntax.Spelling.{Scope, ItemType, left_hand_side, right_hand_side, replacement, IsEndingOf, item_spells_after, list_spells, TextSpells};
-ghost use Rattle.souper_graph.specs.Syntax.Forms.{items, item_after};
+ghost use Rattle.souper_graph.specs.Syntax.Spelling.{ItemType, left_hand_side, right_hand_side, replacement, IsEndingOf, TextSpells};
 ghost use Rattle.souper_graph.specs.View.{view_left_hand_side, view_right_hand_side, view_replacement};
 ghost use Rattle.souper_graph.specs.Uses.{NeededIn, UsesBelow};
 ghost use Rattle.souper_graph.specs.Faults.{HasBadId};
@@ -82,14 +80,6 @@ pub fn law_of_item_types()
     ensures left_hand_side { (⟦<LeftHandSide as Item>⟧.item_type ≡ left_hand_side) × (⟦<LeftHandSide as Item>⟧.view ≡ view_left_hand_side) }
     ensures right_hand_side { (⟦<RightHandSide as Item>⟧.item_type ≡ right_hand_side) × (⟦<RightHandSide as Item>⟧.view ≡ view_right_hand_side) }
     ensures replacement { (⟦<Replacement as Item>⟧.item_type ≡ replacement) × (⟦<Replacement as Item>⟧.view ≡ view_replacement) }
-{}
-
-/// Tokens spell items if and only if they have their form: the two definitions of the grammar, `Spelling` and `Forms`, are one.
-///
-/// `listed` says it of lists of items, `after` of an item whose first statements were read.
-pub fn law_of_forms()
-    ensures listed { (k : ItemType) (xs : List PlainItem) (ts : List Lexeme) → list_spells k xs ts ↔ items k xs ts }
-    ensures after { (k : ItemType) (s : Scope) (a : PlainItem) (ts : List Lexeme) → item_spells_after k s a ts ↔ item_after k s a ts }
 {}
 
 /// The canonical text of a well-formed item reads back as the item with its needed statements alone, in printed order.

@@ -3,29 +3,29 @@ use Rattle.std.specs.Prelude.{◌≡◌, ℕ, false, List, [], ◌++◌, None}
 use Rattle.souper_graph.specs.Values.{Item}
 use Rattle.souper_errors.specs.declared.error.ParseError.{ParseError}
 use Rattle.souper_graph.specs.Syntax.Tokens.{Lexeme}
-use Rattle.souper_graph.specs.Syntax.Spelling.{kinds, ItemType, list_spells}
+use Rattle.souper_graph.specs.Syntax.Spelling.{kinds, ItemType, items}
 use Rattle.souper_ir.specs.Continuation.{item_continues}
 use Rattle.souper_ir.specs.Parsing.{Parsing}
 use Rattle.souper_ir.specs.Reading.{cause_of, IfRefused, Fails}
 use Rattle.souper_ir.specs.Grammar.{Free, LastGoesOn}
 
 -- items were taken, from an empty scope to an empty scope
-pub record ItemsTaken (k : ItemType) (items : List Item) (p q : Parsing) : Type 0 where
+pub record ItemsTaken (k : ItemType) (xs : List Item) (p q : Parsing) : Type 0 where
   pub used : List (ℕ × Lexeme)
   pub parts : p.tokens ≡ used ++ q.tokens
-  pub spelled : list_spells k items (kinds used)
-  pub free : Free (λ t. LastGoesOn item_continues items t) (kinds q.tokens)
+  pub spelled : items k xs (kinds used)
+  pub free : Free (λ t. LastGoesOn item_continues xs t) (kinds q.tokens)
   pub state : q ≡ record p { tokens = q.tokens }
   pub empty : p.scope ≡ []
 
 -- the tokens up to the end of the text spell the items, and no fault follows
-pub record SpellsAll (k : ItemType) (items : List Item) (p : Parsing) : Type 0 where
-  pub spelled : list_spells k items (kinds p.tokens)
+pub record SpellsAll (k : ItemType) (xs : List Item) (p : Parsing) : Type 0 where
+  pub spelled : items k xs (kinds p.tokens)
   pub sound : p.faulty ≡ false
 
 -- the remaining tokens, up to the end of the text, spell no items
 abbrev pub NoList : ItemType → Parsing → Type 0
-NoList k p = (items : List Item) → p.faulty ≡ false → list_spells k items (kinds p.tokens) → ⊥
+NoList k p = (xs : List Item) → p.faulty ≡ false → items k xs (kinds p.tokens) → ⊥
 
 pub record ListRefusal (k : ItemType) (e : ParseError) (p q : Parsing) : Type 0 where
   pub failed : Fails e p q

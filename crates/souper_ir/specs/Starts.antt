@@ -2,7 +2,7 @@
 use Rattle.std.specs.Prelude.{◌≡◌, ℕ, List, [], ◌∷◌, ◌++◌, Option, option_map}
 use Rattle.souper_graph.specs.Values.{Item}
 use Rattle.souper_graph.specs.Syntax.Tokens.{Lexeme, IsTextOf, Begins}
-use Rattle.souper_graph.specs.Syntax.Spelling.{kinds, ItemType, item_spells, list_spells}
+use Rattle.souper_graph.specs.Syntax.Spelling.{kinds, ItemType, items as items_form, item}
 use Rattle.souper_ir.specs.declared.parse.memory.Kept.{Kept}
 use Rattle.souper_ir.specs.declared.parse.memory.Memory.{Memory}
 use Rattle.souper_ir.specs.Parsing.{Parsing}
@@ -19,7 +19,7 @@ pub record SpellsFrom (k : ItemType) (a : Item) (start : ℕ) (P : List (ℕ × 
   pub others : List (ℕ × Lexeme)
   pub whole : ts ≡ used ++ others
   pub starts : StartsAt start used
-  pub spelled : item_spells k a (kinds used)
+  pub spelled : item k a (kinds used)
   pub further : P others
 
 -- the tokens spell the items, which begin at these offsets
@@ -67,7 +67,7 @@ pub record TakesFirst {S : Type 0} (holds : S → S → List Item → Type 0) (k
   pub used : List (ℕ × Lexeme)
   pub others : List (ℕ × Lexeme)
   pub parts : p.tokens ≡ used ++ others
-  pub spelled : list_spells k items (kinds used)
+  pub spelled : items_form k items (kinds used)
   pub each : SpellEachFrom k items starts used
   pub taken : TakesOver holds items old new
   pub has : kept starts

@@ -3,8 +3,7 @@ use Rattle.std.specs.Prelude.{◌≡◌, ◌⊎◌, ℕ, Bool, true, false, List
 use Rattle.souper_graph.specs.Values.{PlainStatement, PlainInfer, Item}
 use Rattle.souper_graph.specs.Syntax.Tokens.{Lexeme}
 use Rattle.souper_graph.specs.Syntax.TokenLaws.{AreTokensOf}
-use Rattle.souper_graph.specs.Syntax.Spelling.{kinds, infer_spells, ItemType, left_hand_side, right_hand_side, replacement}
-use Rattle.souper_graph.specs.Syntax.Forms.{attribute as attribute_form, root_attribute as root_attribute_form}
+use Rattle.souper_graph.specs.Syntax.Spelling.{kinds, infer, ItemType, left_hand_side, right_hand_side, replacement, attribute as attribute_form, root_attribute as root_attribute_form}
 use Rattle.souper_lexer.specs.TokenView.{IsCut}
 use Rattle.souper_errors.specs.declared.error.ParseError.{ParseError}
 use Rattle.souper_ir.specs.declared.parse.item.Next.TheVariants.{Assignment, Pc, BlockPc}
@@ -68,7 +67,7 @@ ResultStops ended p = result_at p ≡ Err ended
 
 -- an infer line, or what comes after it in a replacement
 abbrev pub ReplacedStops : Bool → Parsing → Type 0
-ReplacedStops ended p = InferStops ended p ⊎ ((i : PlainInfer) × (q : Parsing) × Took infer_spells infer_continues (λ s. s) i p q × EitherStops ResultStops ended q)
+ReplacedStops ended p = InferStops ended p ⊎ ((i : PlainInfer) × (q : Parsing) × Took infer infer_continues (λ s. s) i p q × EitherStops ResultStops ended q)
 
 -- what comes after the first statements of a replacement
 abbrev pub EndingStops : Bool → Parsing → Type 0

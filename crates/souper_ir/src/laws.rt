@@ -7,7 +7,7 @@ ghost use Rattle.std.specs.Prelude.{◌≡◌, ◌↔◌, ℕ, true, List, [], O
 ghost use Rattle.std.specs.List.{AllByRecursion};
 ghost use Rattle.souper_graph.specs.Unneeded.{EachClosed, AllNeeded};
 ghost use Rattle.souper_graph.specs.Instructions.{word_of};
-ghost use Rattle.souper_graph.specs.Values.{PlainAttribute, PlainRootAttribute, PlainPhi, PlainRhs, block, phi, PlainAssignment, PlainStatement, PlainInfer, PlainCand, Item};
+ghost use Rattle.souper_graph.specs.Values.{PlainAttribute, PlainRootAttribute, PlainPhi, PlainRhs, block, phi, instruction, PlainAssignment, PlainStatement, assigned, condition, block_condition, PlainInfer, PlainCand, Item};
 ghost use Rattle.souper_graph.specs.View.{view_attribute, view_root_attribute, view_phi, view_rhs, view_assignment, view_statement, view_infer, view_cand, view_left_hand_side, view_right_hand_side, view_replacement};
 ghost use Rattle.souper_graph.specs.Text.{text_of, texts_of};
 ghost use Rattle.souper_graph.specs.Sameness.{renumbered, SameGraph};
@@ -15,8 +15,7 @@ ghost use Rattle.souper_graph.specs.Renaming.{SameUpToNames, IsRenamed};
 ghost use Rattle.souper_graph.specs.ItemText.{IsWellFormedOf, AreWellFormed};
 ghost use Rattle.souper_graph.specs.Syntax.Tokens.{Lexeme, ident, open_paren};
 ghost use Rattle.souper_graph.specs.Syntax.TokenLaws.{OneReading, IsWhiteSpaceListed, EachInText, GapEndsToken, FrontsJoin};
-ghost use Rattle.souper_graph.specs.Syntax.Spelling.{Scope, OneList, constant_spells, instruction_spells, assignment_spells, pc_spells, block_pc_spells, statement_spells, infer_spells, cand_spells, ItemType, left_hand_side, right_hand_side, replacement, item_spells_after, TextSpells};
-ghost use Rattle.souper_graph.specs.Syntax.Forms.{type as type_form, operand, rhs, attribute, root_attribute};
+ghost use Rattle.souper_graph.specs.Syntax.Spelling.{Scope, OneList, ItemType, left_hand_side, right_hand_side, replacement, TextSpells, type as type_form, operand, rhs, attribute, root_attribute, constant, statement, infer, cand, item_after};
 ghost use Rattle.souper_ir.specs.Continuation.{constant_continues, operand_continues, phi_continues, instruction_continues, rhs_continues, assignment_continues, pc_continues, block_pc_continues, statement_continues, infer_continues, cand_continues, item_continues};
 ghost use Rattle.souper_ir.specs.Joining.{TokensJoin, TokensPart, ItemsJoin};
 ghost use Rattle.souper_ir.specs.Grammar.{Members, ListGoesOn, OptionSpells, OptionGoesOn};
@@ -83,7 +82,7 @@ pub fn law_of_type()
 /// What parsing a constant promises.
 pub fn law_of_constant()
     ensures view { (v : _) → ⟦<Constant as Parse>⟧.view v ≡ v }
-    ensures spells { (s : Scope) (v : _) (ts : List Lexeme) → ⟦<Constant as Parse>⟧.spells s v ts ↔ constant_spells v ts }
+    ensures spells { (s : Scope) (v : _) (ts : List Lexeme) → ⟦<Constant as Parse>⟧.spells s v ts ↔ constant v ts }
     ensures continues { (v : _) (t : Lexeme) → ⟦<Constant as Parse>⟧.continues v t ↔ constant_continues v t }
     ensures leaves { (s : Scope) → ⟦<Constant as Parse>⟧.leaves s ≡ s }
     ensures starts { (t : Lexeme) → ⟦<Constant as Peek>⟧.starts t ≡ is_int t }
@@ -118,7 +117,7 @@ pub fn law_of_phi()
 /// What parsing an instruction promises.
 pub fn law_of_instruction()
     ensures view { (v : _) → ⟦<Instruction as Parse>⟧.view v ≡ v }
-    ensures spells { (s : Scope) (v : _) (ts : List Lexeme) → ⟦<Instruction as Parse>⟧.spells s v ts ↔ instruction_spells s v ts }
+    ensures spells { (s : Scope) (v : _) (ts : List Lexeme) → ⟦<Instruction as Parse>⟧.spells s v ts ↔ rhs s (instruction v) ts }
     ensures continues { (v : _) (t : Lexeme) → ⟦<Instruction as Parse>⟧.continues v t ↔ instruction_continues v t }
     ensures leaves { (s : Scope) → ⟦<Instruction as Parse>⟧.leaves s ≡ s }
     ensures starts { (t : Lexeme) → (⟦<Instruction as Peek>⟧.starts t ≡ true) ↔ ((i : _) × (t ≡ ident (word_of i))) }
@@ -153,7 +152,7 @@ pub fn law_of_root_attribute()
 /// What parsing an assignment promises.
 pub fn law_of_assignment()
     ensures view { (v : _) → ⟦<Assignment as Parse>⟧.view v ≡ view_assignment v }
-    ensures spells { (s : Scope) (v : PlainAssignment) (ts : List Lexeme) → ⟦<Assignment as Parse>⟧.spells s v ts ↔ assignment_spells s v ts }
+    ensures spells { (s : Scope) (v : PlainAssignment) (ts : List Lexeme) → ⟦<Assignment as Parse>⟧.spells s v ts ↔ statement s (assigned v) ts }
     ensures continues { (v : PlainAssignment) (t : Lexeme) → ⟦<Assignment as Parse>⟧.continues v t ↔ assignment_continues v t }
     ensures leaves { (s : Scope) → ⟦<Assignment as Parse>⟧.leaves s ≡ s }
     ensures starts { (t : Lexeme) → ⟦<Assignment as Peek>⟧.starts t ≡ is_name t }
@@ -162,7 +161,7 @@ pub fn law_of_assignment()
 /// What parsing a path condition promises.
 pub fn law_of_pc()
     ensures view { (v : _) → ⟦<Pc as Parse>⟧.view v ≡ v }
-    ensures spells { (s : Scope) (v : _) (ts : List Lexeme) → ⟦<Pc as Parse>⟧.spells s v ts ↔ pc_spells s v ts }
+    ensures spells { (s : Scope) (v : _) (ts : List Lexeme) → ⟦<Pc as Parse>⟧.spells s v ts ↔ statement s (condition v) ts }
     ensures continues { (v : _) (t : Lexeme) → ⟦<Pc as Parse>⟧.continues v t ↔ pc_continues v t }
     ensures leaves { (s : Scope) → ⟦<Pc as Parse>⟧.leaves s ≡ s }
     ensures starts { (t : Lexeme) → ⟦<Pc as Peek>⟧.starts t ≡ is_word (codes "pc") t }
@@ -171,7 +170,7 @@ pub fn law_of_pc()
 /// What parsing a path condition on one predecessor of a block promises.
 pub fn law_of_block_pc()
     ensures view { (v : _) → ⟦<BlockPc as Parse>⟧.view v ≡ v }
-    ensures spells { (s : Scope) (v : _) (ts : List Lexeme) → ⟦<BlockPc as Parse>⟧.spells s v ts ↔ block_pc_spells s v ts }
+    ensures spells { (s : Scope) (v : _) (ts : List Lexeme) → ⟦<BlockPc as Parse>⟧.spells s v ts ↔ statement s (block_condition v) ts }
     ensures continues { (v : _) (t : Lexeme) → ⟦<BlockPc as Parse>⟧.continues v t ↔ block_pc_continues v t }
     ensures leaves { (s : Scope) → ⟦<BlockPc as Parse>⟧.leaves s ≡ s }
     ensures starts { (t : Lexeme) → ⟦<BlockPc as Peek>⟧.starts t ≡ is_word (codes "blockpc") t }
@@ -180,7 +179,7 @@ pub fn law_of_block_pc()
 /// What parsing a statement promises.
 pub fn law_of_statement()
     ensures view { (v : _) → ⟦<Statement as Parse>⟧.view v ≡ view_statement v }
-    ensures spells { (s : Scope) (v : PlainStatement) (ts : List Lexeme) → ⟦<Statement as Parse>⟧.spells s v ts ↔ statement_spells s v ts }
+    ensures spells { (s : Scope) (v : PlainStatement) (ts : List Lexeme) → ⟦<Statement as Parse>⟧.spells s v ts ↔ statement s v ts }
     ensures continues { (v : PlainStatement) (t : Lexeme) → ⟦<Statement as Parse>⟧.continues v t ↔ statement_continues v t }
     ensures leaves { (s : Scope) → ⟦<Statement as Parse>⟧.leaves s ≡ s }
     ensures starts { (t : Lexeme) → ⟦<Statement as Peek>⟧.starts t ≡ starts_statement t }
@@ -189,7 +188,7 @@ pub fn law_of_statement()
 /// What parsing an infer line promises.
 pub fn law_of_infer()
     ensures view { (v : _) → ⟦<Infer as Parse>⟧.view v ≡ view_infer v }
-    ensures spells { (s : Scope) (v : PlainInfer) (ts : List Lexeme) → ⟦<Infer as Parse>⟧.spells s v ts ↔ infer_spells s v ts }
+    ensures spells { (s : Scope) (v : PlainInfer) (ts : List Lexeme) → ⟦<Infer as Parse>⟧.spells s v ts ↔ infer s v ts }
     ensures continues { (v : PlainInfer) (t : Lexeme) → ⟦<Infer as Parse>⟧.continues v t ↔ infer_continues v t }
     ensures leaves { (s : Scope) → ⟦<Infer as Parse>⟧.leaves s ≡ s }
     ensures starts { (t : Lexeme) → ⟦<Infer as Peek>⟧.starts t ≡ is_word (codes "infer") t }
@@ -198,7 +197,7 @@ pub fn law_of_infer()
 /// What parsing a cand line promises.
 pub fn law_of_cand()
     ensures view { (v : _) → ⟦<Cand as Parse>⟧.view v ≡ view_cand v }
-    ensures spells { (s : Scope) (v : PlainCand) (ts : List Lexeme) → ⟦<Cand as Parse>⟧.spells s v ts ↔ cand_spells s v ts }
+    ensures spells { (s : Scope) (v : PlainCand) (ts : List Lexeme) → ⟦<Cand as Parse>⟧.spells s v ts ↔ cand s v ts }
     ensures continues { (v : PlainCand) (t : Lexeme) → ⟦<Cand as Parse>⟧.continues v t ↔ cand_continues v t }
     ensures leaves { (s : Scope) → ⟦<Cand as Parse>⟧.leaves s ≡ s }
 {}
@@ -206,7 +205,7 @@ pub fn law_of_cand()
 /// What parsing a left-hand side promises.
 pub fn law_of_left_hand_side()
     ensures view { (v : _) → ⟦<LeftHandSide as Parse>⟧.view v ≡ view_left_hand_side v }
-    ensures spells { (s : Scope) (v : Item) (ts : List Lexeme) → ⟦<LeftHandSide as Parse>⟧.spells s v ts ↔ item_spells_after left_hand_side s v ts }
+    ensures spells { (s : Scope) (v : Item) (ts : List Lexeme) → ⟦<LeftHandSide as Parse>⟧.spells s v ts ↔ item_after left_hand_side s v ts }
     ensures continues { (v : Item) (t : Lexeme) → ⟦<LeftHandSide as Parse>⟧.continues v t ↔ item_continues v t }
     ensures leaves { (s : Scope) → ⟦<LeftHandSide as Parse>⟧.leaves s ≡ [] }
 {}
@@ -214,7 +213,7 @@ pub fn law_of_left_hand_side()
 /// What parsing a right-hand side promises.
 pub fn law_of_right_hand_side()
     ensures view { (v : _) → ⟦<RightHandSide as Parse>⟧.view v ≡ view_right_hand_side v }
-    ensures spells { (s : Scope) (v : Item) (ts : List Lexeme) → ⟦<RightHandSide as Parse>⟧.spells s v ts ↔ item_spells_after right_hand_side s v ts }
+    ensures spells { (s : Scope) (v : Item) (ts : List Lexeme) → ⟦<RightHandSide as Parse>⟧.spells s v ts ↔ item_after right_hand_side s v ts }
     ensures continues { (v : Item) (t : Lexeme) → ⟦<RightHandSide as Parse>⟧.continues v t ↔ item_continues v t }
     ensures leaves { (s : Scope) → ⟦<RightHandSide as Parse>⟧.leaves s ≡ [] }
 {}
@@ -222,7 +221,7 @@ pub fn law_of_right_hand_side()
 /// What parsing a replacement promises.
 pub fn law_of_replacement()
     ensures view { (v : _) → ⟦<Replacement as Parse>⟧.view v ≡ view_replacement v }
-    ensures spells { (s : Scope) (v : Item) (ts : List Lexeme) → ⟦<Replacement as Parse>⟧.spells s v ts ↔ item_spells_after replacement s v ts }
+    ensures spells { (s : Scope) (v : Item) (ts : List Lexeme) → ⟦<Replacement as Parse>⟧.spells s v ts ↔ item_after replacement s v ts }
     ensures continues { (v : Item) (t : Lexeme) → ⟦<Replacement as Parse>⟧.continues v t ↔ item_continues v t }
     ensures leaves { (s : Scope) → ⟦<Replacement as Parse>⟧.leaves s ≡ [] }
 {}

@@ -32,7 +32,7 @@ one-text a b sa sb =
     )
   where
     well : (x : Item) → Storable x → WellFormed (renamed x) × IsEndingOf replacement (renamed x).ending
-    well x s = (subst (λ (z : Item). WellFormed z) (sym s.named) s.well_formed, subst (λ d. IsEndingOf replacement d) (sym s.ending) tt)
+    well x s = (subst (λ (z : Item). WellFormed z) (sym s.named) s.well_formed, subst (λ d. IsEndingOf replacement d) (sym s.ending) refl)
 
 -- ---- lists
 

@@ -9,7 +9,8 @@ use Rattle.std.proofs.lemmas.Bool.{eqb-false}
 use Rattle.std.proofs.lemmas.List.{same_from_push, take_more, drop-append-le, take-append-le, drop_more, drop_all}
 use Rattle.std.proofs.Math.Seq.{drop-append_seam, take-append-add}
 use Rattle.std.proofs.lemmas.List.Sums.{count_by-le-length}
-use Rattle.souper_stream.proofs.Prelude.{newlines-append, IsOneLine, Lexeme, spelling, Begins, Item, kinds, ItemType, list_spells, EndsIn, newlines, IsLineText, IsPlace, ParseError, Io, Parse, MemoryKind, IsLines, lines_end, kind_of, HasLocation, HasLocationAfter, IsPlacedAfter, IsRefusalAt, Before, Memory, IsStrError, kinds-append, TakesOver, TakesPrefix, StartsAt, SpellEachFrom, PrefixSpellsFrom, TakesFrom, HasStarts, starts_of}
+use Rattle.souper_graph.specs.Syntax.Spelling.{items as items_form}
+use Rattle.souper_stream.proofs.Prelude.{newlines-append, IsOneLine, Lexeme, spelling, Begins, Item, kinds, ItemType, EndsIn, newlines, IsLineText, IsPlace, ParseError, Io, Parse, MemoryKind, IsLines, lines_end, kind_of, HasLocation, HasLocationAfter, IsPlacedAfter, IsRefusalAt, Before, Memory, IsStrError, kinds-append, TakesOver, TakesPrefix, StartsAt, SpellEachFrom, PrefixSpellsFrom, TakesFrom, HasStarts, starts_of}
 use Rattle.souper_errors.specs.declared.error.ParseErrorKind.{ParseErrorKind}
 use Rattle.souper_stream.specs.Reading.{AreAll, ReadsBytes}
 use Rattle.souper_stream.specs.declared.buffer.Buffer.{Buffer}
@@ -253,7 +254,7 @@ pub prefix_ascends : (k : ItemType) (bs : List ℕ) (items : List Item) (starts 
 prefix_ascends k bs items starts (ts, rest, begun, each) = let all : Ascend 0 starts (0 + length bs) = each_ascend k items starts ts 0 bs rest each begun in subst (λ (n : ℕ). Ascend 0 starts n) (omega arith) all
 
 -- the items are spelled, wherever they begin
-pub each_spells : (k : ItemType) (items : List Item) (starts : List ℕ) (ts : List (ℕ × Lexeme)) → SpellEachFrom k items starts ts → list_spells k items (kinds ts)
+pub each_spells : (k : ItemType) (items : List Item) (starts : List ℕ) (ts : List (ℕ × Lexeme)) → SpellEachFrom k items starts ts → items_form k items (kinds ts)
 each_spells k [] [] ts e = ap kinds e
 each_spells k [] (start ∷ starts) ts e = absurd e
 each_spells k (a ∷ items) [] ts e = absurd e

@@ -1,4 +1,5 @@
 pub mod Prelude
+mod Words
 mod Parting
 mod LineLists
 pub mod Cutting

@@ -4,7 +4,8 @@ use Rattle.std.specs.List.{AllByRecursion}
 use Rattle.std.specs.Io.BufRead.{take_through}
 use Rattle.std.proofs.lemmas.Bool.{false_from_ne_true}
 use Rattle.std.proofs.lemmas.List.{append_cancel_left}
-use Rattle.souper_stream.proofs.Prelude.{Passes, is_byte, Item, Lexeme, IsGap, Begins, IsTextOf, IsOneLine, kinds, ItemType, list_spells, TextSpells, begins_length, begins_append, text_tokens, one_reading, IsLines, moved, PrefixSpells, kinds-append, begins_more, begins_moved, begins_later, left_of_lines, gap_of_lines, kinds_moved, list_append, no_lines_end, lines_end, tokens_part}
+use Rattle.souper_graph.specs.Syntax.Spelling.{items as items_form}
+use Rattle.souper_stream.proofs.Prelude.{Passes, is_byte, Item, Lexeme, IsGap, Begins, IsTextOf, IsOneLine, kinds, ItemType, TextSpells, begins_length, begins_append, text_tokens, one_reading, IsLines, moved, PrefixSpells, kinds-append, begins_more, begins_moved, begins_later, left_of_lines, gap_of_lines, kinds_moved, list_append, no_lines_end, lines_end, tokens_part}
 use Rattle.std.proofs.lemmas.Grind.{flat_map-append}
 use Rattle.souper_stream.specs.Segments.{Line, concat, IsWholeLine, AreLines, tokens_of, tokens_of_lines, FirstStarts, IsLastLineAt}
 
@@ -36,7 +37,7 @@ prefix_after k done part xs ys l (ts, (left, begun, gap), spelled) (us, rest, be
     let j = begins_join done part left rest ts us begun (left_of_lines ts done left l begun) (gap_of_lines ts done left l begun gap) begins in
     let are : kinds ts ++ kinds us ≡ kinds (ts ++ moved (length done) us) =
     ap (λ (x : List Lexeme). kinds ts ++ x) (sym (kinds_moved (length done) us)) ∙ sym (kinds-append ts (moved (length done) us)) in
-    (ts ++ moved (length done) us, j.0, j.1, subst (λ (x : List Lexeme). list_spells k (xs ++ ys) x) are (list_append k xs ys (kinds ts) (kinds us) spelled more))
+    (ts ++ moved (length done) us, j.0, j.1, subst (λ (x : List Lexeme). items_form k (xs ++ ys) x) are (list_append k xs ys (kinds ts) (kinds us) spelled more))
 
 -- and with more after them
 pub prefix_longer : (k : ItemType) (part rest : List ℕ) (ys : List Item) → IsLines part → PrefixSpells k part ys → PrefixSpells k (part ++ rest) ys

@@ -1,15 +1,15 @@
 -- The tokens of items: where lines begin in them and items end; what a text spells is parted at a cut point.
-use Rattle.std.proofs.Common.{◌≡◌, ℕ, ◌<◌, true, false, ◌⊎◌, inl, inr, List, [], ◌∷◌, ◌++◌, length, Option, refl, sym, ap, ◌∙◌, subst, arith, append_assoc, append-nil, length-append, codes}
+use Rattle.std.proofs.Common.{◌≡◌, ℕ, ◌<◌, true, false, ◌⊎◌, inl, inr, List, [], ◌∷◌, ◌++◌, length, Option, Some, None, refl, sym, ap, ◌∙◌, subst, arith, append_assoc, append-nil, length-append, codes}
 use Rattle.std.specs.List.{AllByRecursion}
-use Rattle.std.proofs.lemmas.Slice.Eq.{bytes_eq-Decides}
 use Rattle.souper_stream.proofs.Prelude.{All-both, Lexeme, ident, val_name, equals, comma, IsTextOf, IsLines, moved, kinds-append, kinds_moved, Within, Beyond, parted_twice, tokens_part}
 use Rattle.souper_graph.specs.declared.ast.operands.«Type».{«Type» as Ty}
 use Rattle.souper_graph.specs.declared.ast.operands.Operand.{Operand}
-use Rattle.souper_graph.specs.declared.ast.instructions.Instruction.{Instruction}
-use Rattle.souper_graph.specs.Instructions.{word_of}
-use Rattle.souper_graph.specs.Values.{PlainAttribute, PlainRootAttribute, PlainRhs, PlainStatement, assigned, condition, block_condition, PlainCand, inferred, resulting, replaced, candidate, Item}
-use Rattle.souper_graph.specs.Syntax.Spelling.{kinds, Scope, optional_type_spells, operand_spells, further_spells, operands_spells, pair_spells, rhs_spells, attributes_spell, root_attributes_spell, statement_spells, cand_spells, result_spells, Statements, ItemType, left_hand_side, right_hand_side, replacement, Tail, tail_spells, item_spells, list_spells, TextSpells}
-use Rattle.souper_ir.specs.Laws.Words.{opcode_is}
+use Rattle.souper_graph.specs.declared.ast.operands.Operand.TheVariants.{Value, Constant as constant_variant}
+use Rattle.souper_graph.specs.Values.{PlainRootAttribute, demanded_bits, harvested_from_use, PlainStatement, assigned, condition, block_condition, PlainInfer, PlainCand, inferred, resulting, replaced, candidate, Item}
+use Rattle.souper_graph.specs.Syntax.Spelling.{kinds, Scope, statement, cand, result, ItemType, replacement, items, TextSpells, Form, ◌·◌, token, optional, each, of_type, operand, rhs, attribute, root_attribute, statements, infer, ending_type, item}
+use Rattle.souper_ir.specs.Items.{Tail, tail_lines}
+use Rattle.souper_ir.specs.Laws.Items.{parted_item}
+use Rattle.souper_stream.proofs.Words.{IsOther, optional_type_in, root_attributes_in, statements_in}
 use Rattle.souper_stream.specs.Lines.{last_word, line_word, begins_terminator, token_begins_terminator, defines, starts_line, NoStart, LastEnds}
 
 -- ---- words
@@ -22,9 +22,6 @@ not_last w h = grind arith
 
 not_end : (k : ItemType) (w : List ℕ) → last_word w ≡ false → begins_terminator k w ≡ false
 not_end k w h = grind arith
-
-instruction_word : (i : Instruction) → line_word (word_of i) ≡ false
-instruction_word i = let o = opcode_is i in grind (arith, bytes_eq-Decides)
 
 -- ---- tokens
 
@@ -87,75 +84,65 @@ ends_within k xs ys s h = elim (parted_twice h.before (ident h.word ∷ h.after)
     later : (more : List Lexeme) → ys ≡ more ++ ident h.word ∷ h.after → LastEnds k ys
     later more e = record { before = more; word = h.word; after = h.after; whole = e; ends = h.ends; quiet = h.quiet }
 
--- ---- operands
+-- ---- the tokens of nodes
 
-optional_type_plain : (o : Option Ty) (ts : List Lexeme) → optional_type_spells o ts → ArePlain ts
-optional_type_plain o ts h = grind (arith, bytes_eq-Decides)
+plain_other : (t : Lexeme) → IsOther t → Plain t
+plain_other (ident w) h = absurd h
+plain_other (val_name n) h = absurd h
+plain_other _ h = tt
 
-operand_no_end : (k : ItemType) (s : Scope) (x : Operand) (ts : List Lexeme) → operand_spells s x ts → NoEnd k ts
-operand_no_end k s x ts h = grind (arith, optional_type_plain, plain_no_end k)
+no_end_other : (k : ItemType) (t : Lexeme) → IsOther t → token_begins_terminator k t ≡ false
+no_end_other k (ident w) h = absurd h
+no_end_other k _ h = refl
+
+optional_type_plain : (o : Option Ty) (ts : List Lexeme) → optional of_type o ts → ArePlain ts
+optional_type_plain = optional_type_in Plain plain_other (λ w h. h)
+
+root_attributes_plain : (xs : List PlainRootAttribute) (ts : List Lexeme) → each root_attribute xs ts → ArePlain ts
+root_attributes_plain = root_attributes_in Plain plain_other (λ w h. h)
+
+statements_no_end : (k : ItemType) (s : Scope) (vs : List PlainStatement) (ts : List Lexeme) → statements s vs ts → NoEnd k ts
+statements_no_end k =
+    statements_in (λ t. token_begins_terminator k t ≡ false) (no_end_other k) (λ w h. not_end k w (not_last w h)) (λ n. refl) (not_end k (codes "pc") refl, not_end k (codes "blockpc") refl)
 
 -- after an operand no line starts, unless one starts in what follows
-pub operand_quiet : (s : Scope) (x : Operand) (ts ys : List Lexeme) → operand_spells s x ts → defines ys ≡ false → NoStart ys → NoStart (ts ++ ys)
-operand_quiet s x ts ys h d q = grind (arith, optional_type_plain, quiet_append)
+operand_quiet : (s : Scope) (x : Operand) (ts ys : List Lexeme) → operand s x ts → defines ys ≡ false → NoStart ys → NoStart (ts ++ ys)
+operand_quiet s (Value i) ts ys h d q = rw h.1 (d, q)
+operand_quiet s (constant_variant c) ts ys h d q = rw (h.whole, h.first.1) (refl, quiet_append h.suffix ys (optional_type_plain c.ty h.suffix h.second) q)
 
-further_no_end : (k : ItemType) (s : Scope) (xs : List Operand) (ts : List Lexeme) → further_spells s xs ts → NoEnd k ts
-further_no_end k s [] ts h = rw h tt
-further_no_end k s (x ∷ xs) ts (us, e, h) = rw (e, h.whole) (refl, All-both (λ t. token_begins_terminator k t ≡ false) h.prefix h.suffix (operand_no_end k s x h.prefix h.first) (further_no_end k s xs h.suffix h.second))
+operand_not_define : (s : Scope) (x : Operand) (ts ys : List Lexeme) → operand s x ts → defines (ts ++ ys) ≡ false
+operand_not_define s (Value i) ts ys h = rw h.1 refl
+operand_not_define s (constant_variant c) ts ys h = rw (h.whole, h.first.1) refl
 
-operands_no_end : (k : ItemType) (s : Scope) (xs : List Operand) (ts : List Lexeme) → operands_spells s xs ts → NoEnd k ts
-operands_no_end k s [] ts h = rw h tt
-operands_no_end k s (x ∷ xs) ts h = rw h.whole (All-both (λ t. token_begins_terminator k t ≡ false) h.prefix h.suffix (operand_no_end k s x h.prefix h.first) (further_no_end k s xs h.suffix h.second))
-
-pair_no_end : (k : ItemType) (s : Scope) (x y : Operand) (ts : List Lexeme) → pair_spells s x y ts → NoEnd k ts
-pair_no_end k s x y ts h = rw h.whole (All-both (λ t. token_begins_terminator k t ≡ false) h.prefix h.suffix (operand_no_end k s x h.prefix h.first) (operand_no_end k s y h.suffix h.second))
-
--- ---- right sides and attributes
-
-rhs_no_end : (k : ItemType) (s : Scope) (v : PlainRhs) (ts : List Lexeme) → rhs_spells s v ts → NoEnd k ts
-rhs_no_end k s v ts h = grind (arith, further_no_end k, operands_no_end k, not_end k, not_last, instruction_word)
-
-attributes_plain : (xs : List PlainAttribute) (ts : List Lexeme) → attributes_spell xs ts → ArePlain ts
-attributes_plain [] ts h = rw h tt
-attributes_plain (x ∷ xs) ts h = rw h.whole (All-both Plain h.prefix h.suffix (grind arith) (attributes_plain xs h.suffix h.second))
-
-pub root_attributes_plain : (xs : List PlainRootAttribute) (ts : List Lexeme) → root_attributes_spell xs ts → ArePlain ts
-root_attributes_plain [] ts h = rw h tt
-root_attributes_plain (x ∷ xs) ts h = rw h.whole (All-both Plain h.prefix h.suffix (grind arith) (root_attributes_plain xs h.suffix h.second))
-
-pub root_attributes_not_define : (xs : List PlainRootAttribute) (ts : List Lexeme) → root_attributes_spell xs ts → defines ts ≡ false
+root_attributes_not_define : (xs : List PlainRootAttribute) (ts : List Lexeme) → each root_attribute xs ts → defines ts ≡ false
 root_attributes_not_define [] ts h = rw h refl
-root_attributes_not_define (x ∷ xs) ts h = rw h.whole (grind arith)
+root_attributes_not_define (demanded_bits bits ∷ xs) ts h = rw (h.whole, h.first.whole, h.first.first) refl
+root_attributes_not_define (harvested_from_use ∷ xs) ts h = rw (h.whole, h.first.whole, h.first.first) refl
 
--- ---- statements
-
-statement_no_end : (k : ItemType) (s : Scope) (v : PlainStatement) (ts : List Lexeme) → statement_spells s v ts → NoEnd k ts
-statement_no_end k s (assigned a) ts h =
-    rw h.whole (
-      refl,
-      All-both (λ t. token_begins_terminator k t ≡ false) h.ty (equals ∷ (h.rhs ++ h.attributes)) (plain_no_end k h.ty (optional_type_plain a.ty h.ty h.ty_spelled))
-          (refl, All-both (λ t. token_begins_terminator k t ≡ false) h.rhs h.attributes (rhs_no_end k s a.value h.rhs h.rhs_spelled) (plain_no_end k h.attributes (attributes_plain a.attributes h.attributes h.attributes_spelled))),
-    )
-statement_no_end k s (condition p) ts h = rw h.1 (not_end k (codes "pc") refl, pair_no_end k s p.x p.y h.0 h.2)
-statement_no_end k s (block_condition p) ts h = rw h.whole (not_end k (codes "blockpc") refl, (refl, (refl, pair_no_end k s p.x p.y h.rest h.operands_spelled)))
-
-statements_no_end : (k : ItemType) (s : Scope) (vs : List PlainStatement) (ts : List Lexeme) → Statements s vs ts → NoEnd k ts
-statements_no_end k s [] ts h = rw h tt
-statements_no_end k s (v ∷ vs) ts h = rw h.whole (All-both (λ t. token_begins_terminator k t ≡ false) h.prefix h.suffix (statement_no_end k s v h.prefix h.first) (statements_no_end k (s ++ v ∷ []) vs h.suffix h.second))
+-- nor after a name that attributes follow
+root_attributes_quiet : (xs : List PlainRootAttribute) (ts : List Lexeme) → each root_attribute xs ts → NoStart ts
+root_attributes_quiet xs ts h = plain_quiet ts (root_attributes_plain xs ts h)
 
 -- ---- last lines
 
 -- after the word no line starts
-result_quiet : (s : Scope) (r : Operand) (ts : List Lexeme) (h : result_spells s r ts) → NoStart h.0
-result_quiet s r ts h = subst (λ (x : List Lexeme). NoStart x) (append-nil h.0) (operand_quiet s r h.0 [] h.2 refl tt)
+result_quiet : (s : Scope) (r : Operand) (ts : List Lexeme) (h : result s r ts) → NoStart h.suffix
+result_quiet s r ts h = subst (λ (x : List Lexeme). NoStart x) (append-nil h.suffix) (operand_quiet s r h.suffix [] h.second refl tt)
 
-cand_quiet : (s : Scope) (c : PlainCand) (ts : List Lexeme) (h : cand_spells s c ts) → NoStart (h.lhs ++ (h.between ++ (h.rhs ++ h.attributes)))
+infer_quiet : (s : Scope) (i : PlainInfer) (ts : List Lexeme) (h : infer s i ts) → NoStart h.suffix
+infer_quiet s i ts h =
+    let x = h.second in
+    rw (x.whole, x.first.1) (root_attributes_not_define i.attributes x.suffix x.second, root_attributes_quiet i.attributes x.suffix x.second)
+
+cand_quiet : (s : Scope) (c : PlainCand) (ts : List Lexeme) (h : cand s c ts) → NoStart h.suffix
 cand_quiet s c ts h =
-    let defines_none = root_attributes_not_define c.attributes h.attributes h.attributes_spelled in
-    let quiet = operand_quiet s c.rhs h.rhs h.attributes h.rhs_spelled defines_none (plain_quiet h.attributes (root_attributes_plain c.attributes h.attributes h.attributes_spelled)) in
-    elim h.comma_or_none [
-      | inl e ↦ rw e (operand_quiet s c.lhs h.lhs (h.rhs ++ h.attributes) h.lhs_spelled (grind arith) quiet)
-      | inr e ↦ rw e (operand_quiet s c.lhs h.lhs (comma ∷ (h.rhs ++ h.attributes)) h.lhs_spelled refl (refl, quiet))
+    let x = h.second in
+    let y = x.second in
+    let z = y.second in
+    let quiet = operand_quiet s c.rhs z.prefix z.suffix z.first (root_attributes_not_define c.attributes z.suffix z.second) (root_attributes_quiet c.attributes z.suffix z.second) in
+    elim y.first [
+      | inl e ↦ rw (x.whole, y.whole, e, z.whole) (operand_quiet s c.lhs x.prefix (z.prefix ++ z.suffix) x.first (operand_not_define s c.rhs z.prefix z.suffix z.first) quiet)
+      | inr e ↦ rw (x.whole, y.whole, e, z.whole) (operand_quiet s c.lhs x.prefix (comma ∷ (z.prefix ++ z.suffix)) x.first refl (refl, quiet))
     ]
 
 -- ---- items
@@ -170,37 +157,45 @@ record EndsOnce (k : ItemType) (ts : List Lexeme) : Type 0 where
   pub ends : begins_terminator k word ≡ true
   pub quiet : NoStart others
 
-tail_ends : (k : ItemType) (s : Scope) (y : Tail) (ts : List Lexeme) → tail_spells k s y ts → EndsOnce k ts
-tail_ends left_hand_side s (new, inferred i) ts h =
-    record { head = []; word = codes "infer"; others = val_name h.1.name ∷ h.1.attributes; whole = h.1.whole; no_end = tt; ends = refl; quiet = (root_attributes_not_define i.attributes h.1.attributes h.1.attributes_spelled, plain_quiet h.1.attributes (root_attributes_plain i.attributes h.1.attributes h.1.attributes_spelled)) }
-tail_ends right_hand_side s (new, resulting r) ts h = record { head = []; word = codes "result"; others = h.1.0; whole = h.1.1; no_end = tt; ends = refl; quiet = result_quiet s r ts h.1 }
-tail_ends replacement s (new, replaced i r) ts h =
-    let line = h.infer_spelled in
-    let last = h.result_spelled in
-    let infer_no_end : NoEnd replacement h.infer = rw line.whole (refl, (refl, plain_no_end replacement line.attributes (root_attributes_plain i.attributes line.attributes line.attributes_spelled))) in
-    let middle_no_end : NoEnd replacement h.middle = statements_no_end replacement s new h.middle h.middle_spelled in
+-- an item of the type that ends so
+lines_end : (s : Scope) (y : Tail) (ts : List Lexeme) → tail_lines s y ts → EndsOnce (ending_type y.1) ts
+lines_end s (new, inferred i) ts h =
+    let x = h.1 in
+    record { head = []; word = codes "infer"; others = x.suffix; whole = x.whole ∙ ap (λ (z : List Lexeme). z ++ x.suffix) x.first; no_end = tt; ends = refl; quiet = infer_quiet s i ts x }
+lines_end s (new, resulting r) ts h =
+    let x = h.1 in
+    record { head = []; word = codes "result"; others = x.suffix; whole = x.whole ∙ ap (λ (z : List Lexeme). z ++ x.suffix) x.first; no_end = tt; ends = refl; quiet = result_quiet s r ts x }
+lines_end s (new, replaced i r) ts h =
+    let x = h.second in
+    let last = x.second in
+    let line = h.first in
+    let attributes = line.second in
+    let line_no_end : NoEnd replacement h.prefix = rw (line.whole, line.first, attributes.whole, attributes.first.1) (refl, (refl, plain_no_end replacement attributes.suffix (root_attributes_plain i.attributes attributes.suffix attributes.second))) in
     record {
-      head = h.infer ++ h.middle;
+      head = h.prefix ++ x.prefix;
       word = codes "result";
-      others = last.0;
-      whole = h.whole ∙ ap (λ (x : List Lexeme). h.infer ++ (h.middle ++ x)) last.1 ∙ sym (append_assoc h.infer h.middle (ident (codes "result") ∷ last.0));
-      no_end = All-both (λ t. token_begins_terminator replacement t ≡ false) h.infer h.middle infer_no_end middle_no_end;
+      others = last.suffix;
+      whole = h.whole ∙ ap (λ (z : List Lexeme). h.prefix ++ z) (x.whole ∙ ap (λ (z : List Lexeme). x.prefix ++ z) (last.whole ∙ ap (λ (z : List Lexeme). z ++ last.suffix) last.first))
+          ∙ sym (append_assoc h.prefix x.prefix (ident (codes "result") ∷ last.suffix));
+      no_end = All-both (λ t. token_begins_terminator replacement t ≡ false) h.prefix x.prefix line_no_end (statements_no_end replacement s new x.prefix x.first);
       ends = refl;
-      quiet = result_quiet (s ++ new) r h.result last;
+      quiet = result_quiet (s ++ new) r x.suffix last;
     }
-tail_ends replacement s (new, candidate c) ts h =
-    record { head = []; word = codes "cand"; others = h.1.lhs ++ (h.1.between ++ (h.1.rhs ++ h.1.attributes)); whole = h.1.whole; no_end = tt; ends = refl; quiet = cand_quiet s c ts h.1 }
-tail_ends k s y ts h = absurd h
+lines_end s (new, candidate c) ts h =
+    let x = h.1 in
+    record { head = []; word = codes "cand"; others = x.suffix; whole = x.whole ∙ ap (λ (z : List Lexeme). z ++ x.suffix) x.first; no_end = tt; ends = refl; quiet = cand_quiet s c ts x }
 
-item_ends : (k : ItemType) (a : Item) (ts : List Lexeme) → item_spells k a ts → EndsOnce k ts
+item_ends : (k : ItemType) (a : Item) (ts : List Lexeme) → item k a ts → EndsOnce k ts
 item_ends k a ts h =
-    let t = tail_ends k h.first (h.last, a.ending) h.tail h.tail_spelled in
+    let m = parted_item k [] a ts h in
+    let x = m.spelled in
+    let t : EndsOnce k x.suffix = subst (λ (z : ItemType). EndsOnce z x.suffix) x.second.type_is (lines_end m.first (m.last, a.ending) x.suffix x.second.lines) in
     record {
-      head = h.head ++ t.head;
+      head = x.prefix ++ t.head;
       word = t.word;
       others = t.others;
-      whole = h.whole ∙ ap (λ (x : List Lexeme). h.head ++ x) t.whole ∙ sym (append_assoc h.head t.head (ident t.word ∷ t.others));
-      no_end = All-both (λ t. token_begins_terminator k t ≡ false) h.head t.head (statements_no_end k [] h.first h.head h.head_spelled) t.no_end;
+      whole = x.whole ∙ ap (λ (z : List Lexeme). x.prefix ++ z) t.whole ∙ sym (append_assoc x.prefix t.head (ident t.word ∷ t.others));
+      no_end = All-both (λ t. token_begins_terminator k t ≡ false) x.prefix t.head (statements_no_end k [] m.first x.prefix x.first) t.no_end;
       ends = t.ends;
       quiet = t.quiet;
     }
@@ -214,30 +209,50 @@ one_end k (y ∷ head) (x ∷ pre) others more v w a b h e = let tails : head ++
 
 -- ---- where an item begins
 
-head_starts : (k : ItemType) (s : Scope) (vs : List PlainStatement) (head tail ys : List Lexeme) → Statements s vs head → ((zs : List Lexeme) → starts_line (tail ++ zs) ≡ true) → starts_line ((head ++ tail) ++ ys) ≡ true
-head_starts k s [] head tail ys m t = rw m (t ys)
-head_starts k s (v ∷ vs) head tail ys m t = rw m.whole (simp append_assoc (grind arith))
+-- a name, and then a type or the equals sign
+assigned_defines : (o : Option Ty) (F : Form) (ts ys : List Lexeme) → (optional of_type o · token equals · F) ts → defines (ts ++ ys) ≡ true
+assigned_defines None F ts ys h = rw (h.whole, h.first, h.second.whole, h.second.first) refl
+assigned_defines (Some t) F ts ys h = rw (h.whole, h.first.whole, h.first.first) refl
 
-list_starts : (k : ItemType) (ws : List Item) (ts : List Lexeme) → list_spells k ws ts → (ts ≡ []) ⊎ (starts_line ts ≡ true)
+statement_starts : (s : Scope) (v : PlainStatement) (ts ys : List Lexeme) → statement s v ts → starts_line (ts ++ ys) ≡ true
+statement_starts s (assigned a) ts ys h = rw (h.whole, h.first.0) (assigned_defines a.ty (rhs s a.value · each attribute a.attributes) h.suffix ys h.second)
+statement_starts s (condition p) ts ys h = rw (h.whole, h.first) refl
+statement_starts s (block_condition p) ts ys h = rw (h.whole, h.first) refl
+
+tail_starts : (s : Scope) (y : Tail) (ts ys : List Lexeme) → tail_lines s y ts → starts_line (ts ++ ys) ≡ true
+tail_starts s (new, inferred i) ts ys h = rw (h.1.whole, h.1.first) refl
+tail_starts s (new, resulting r) ts ys h = rw (h.1.whole, h.1.first) refl
+tail_starts s (new, replaced i r) ts ys h = rw (h.whole, h.first.whole, h.first.first) refl
+tail_starts s (new, candidate c) ts ys h = rw (h.1.whole, h.1.first) refl
+
+head_starts : (s : Scope) (vs : List PlainStatement) (head tail ys : List Lexeme) → statements s vs head → ((zs : List Lexeme) → starts_line (tail ++ zs) ≡ true) → starts_line ((head ++ tail) ++ ys) ≡ true
+head_starts s [] head tail ys m t = rw m (t ys)
+head_starts s (v ∷ vs) head tail ys m t =
+    rw (m.whole, append_assoc m.prefix m.suffix tail, append_assoc m.prefix (m.suffix ++ tail) ys) (statement_starts s v m.prefix ((m.suffix ++ tail) ++ ys) m.first)
+
+list_starts : (k : ItemType) (ws : List Item) (ts : List Lexeme) → items k ws ts → (ts ≡ []) ⊎ (starts_line ts ≡ true)
 list_starts k [] ts h = inl h
-list_starts k (w ∷ ws) ts h = let a = h.first in inr (rw (h.whole, a.whole) (head_starts k [] a.first a.head a.tail h.suffix a.head_spelled (λ zs. grind arith)))
+list_starts k (w ∷ ws) ts h =
+    let m = parted_item k [] w h.prefix h.first in
+    let x = m.spelled in
+    inr (rw (h.whole, x.whole) (head_starts [] m.first x.prefix x.suffix h.suffix x.first (λ zs. tail_starts m.first (m.last, w.ending) x.suffix zs x.second.lines)))
 
 -- ---- items that are parted
 
 abbrev Split : ItemType → List Item → List Lexeme → List Lexeme → Type 0
-Split k ws us ts = (xs : List Item) × (ys : List Item) × (ws ≡ xs ++ ys) × list_spells k xs us × list_spells k ys ts
+Split k ws us ts = (xs : List Item) × (ys : List Item) × (ws ≡ xs ++ ys) × items k xs us × items k ys ts
 
 -- no item is parted: the end of its last line is the only one in it
-split_item : (k : ItemType) (a : Item) (ws : List Item) (us ts p s : List Lexeme) → LastEnds k us → starts_line ts ≡ true → item_spells k a p → list_spells k ws s → ((more : List Lexeme) → LastEnds k more → list_spells k ws (more ++ ts) → Split k ws more ts)
+split_item : (k : ItemType) (a : Item) (ws : List Item) (us ts p s : List Lexeme) → LastEnds k us → starts_line ts ≡ true → item k a p → items k ws s → ((more : List Lexeme) → LastEnds k more → items k ws (more ++ ts) → Split k ws more ts)
     → Within us ts p s ⊎ Beyond us ts p s → Split k (a ∷ ws) us ts
 split_item k a ws us ts p s e t h more ih (inr b) =
     let starts : starts_line b.more ≡ true = elim (list_starts k ws s more) [ inl none ↦ absurd (omega (arith, b.some, ap length none, ap length b.second, length-append b.more ts)) | inr start ↦ start_before b.more ts b.some (inr t) (subst (λ (z : List Lexeme). starts_line z ≡ true) b.second start) ] in
-    let r = ih b.more (ends_within k p b.more starts (subst (λ (z : List Lexeme). LastEnds k z) b.first e)) (subst (λ (z : List Lexeme). list_spells k ws z) b.second more) in
+    let r = ih b.more (ends_within k p b.more starts (subst (λ (z : List Lexeme). LastEnds k z) b.first e)) (subst (λ (z : List Lexeme). items k ws z) b.second more) in
     (a ∷ r.0, r.1, ap (λ (z : List Item). a ∷ z) r.2, record { prefix = p; suffix = b.more; whole = b.first; first = h; second = r.3 }, r.4)
 split_item k a ws us ts p s e t h more ih (inl b) = here b.left b.first b.second
   where
     here : (left : List Lexeme) → p ≡ us ++ left → ts ≡ left ++ s → Split k (a ∷ ws) us ts
-    here [] first second = (a ∷ [], ws, refl, record { prefix = p; suffix = []; whole = sym (append-nil p ∙ first ∙ append-nil us); first = h; second = refl }, subst (λ (z : List Lexeme). list_spells k ws z) (sym second) more)
+    here [] first second = (a ∷ [], ws, refl, record { prefix = p; suffix = []; whole = sym (append-nil p ∙ first ∙ append-nil us); first = h; second = refl }, subst (λ (z : List Lexeme). items k ws z) (sym second) more)
     here (y ∷ left) first second =
         let line = item_ends k a p h in
         let rest = e.after ++ y ∷ left in
@@ -247,7 +262,7 @@ split_item k a ws us ts p s e t h more ih (inl b) = here b.left b.first b.second
         absurd (quiet_starts (y ∷ left) quiet (start_before (y ∷ left) s (omega arith) (list_starts k ws s more) (subst (λ (z : List Lexeme). starts_line z ≡ true) second t)))
 
 -- items are parted where one ends and a line starts
-items_part : (k : ItemType) (ws : List Item) (us ts : List Lexeme) → LastEnds k us → starts_line ts ≡ true → list_spells k ws (us ++ ts) → Split k ws us ts
+items_part : (k : ItemType) (ws : List Item) (us ts : List Lexeme) → LastEnds k us → starts_line ts ≡ true → items k ws (us ++ ts) → Split k ws us ts
 items_part k [] us ts e t h = absurd (omega (arith, ap length h, length-append us ts, ap length e.whole, length-append e.before (ident e.word ∷ e.after)))
 items_part k (a ∷ ws) us ts e t h = split_item k a ws us ts h.prefix h.suffix e t h.first h.second (λ more f g. items_part k ws more ts f t g) (parted_twice us ts h.prefix h.suffix h.whole)
 
@@ -257,5 +272,5 @@ pub part_by : (k : ItemType) (a b : List ℕ) (ws : List Item) → IsLines a →
 part_by k a b ws l last starts (us, text, spelled) =
     let (ts, vs, first, second, whole) = tokens_part a b us l text in
     let parts : kinds us ≡ kinds ts ++ kinds vs = ap kinds whole ∙ kinds-append ts (moved (length a) vs) ∙ ap (λ (z : List Lexeme). kinds ts ++ z) (kinds_moved (length a) vs) in
-    let r = items_part k ws (kinds ts) (kinds vs) (last ts first) (starts vs second) (subst (λ (x : List Lexeme). list_spells k ws x) parts spelled) in
+    let r = items_part k ws (kinds ts) (kinds vs) (last ts first) (starts vs second) (subst (λ (x : List Lexeme). items k ws x) parts spelled) in
     (r.0, r.1, r.2, (ts, first, r.3), (vs, second, r.4))

@@ -8,4 +8,4 @@ pub use Rattle.souper_ir.proofs.Items.Joining.{begins_more, begins_moved, begins
 pub use Rattle.souper_ir.proofs.Items.Parting.{lines_end, parted_twice, tokens_part, Within, Beyond}
 pub use Rattle.souper_ir.specs.declared.parse.memory.Memory.{Memory}
 pub use Rattle.souper_ir.specs.Laws.Steps.{kinds-append}
-pub use Rattle.souper_stream.specs.Prelude.{kinds, ItemType, list_spells, TextSpells, SpellsNone, IsOneLine, Lexeme, spelling, Begins, ident, IsGap, IsTextOf, val_name, equals, comma, Item, WellFormed, lexed_of, IsStrError, Before, ParseError, kind_of, HasLocation, HasLocationAfter, IsPlacedAfter, IsRefusalAt, IsLocatedAfter, IsLines, moved, is_name, EndsIn, newlines, IsLineText, IsPlace, PrefixSpells, TakesOver, TakesPrefix, StartsAt, SpellEachFrom, TextSpellsFrom, PrefixSpellsFrom, TakesFrom, HasStarts, starts_of, TextStops, at_end_of}
+pub use Rattle.souper_stream.specs.Prelude.{kinds, ItemType, TextSpells, SpellsNone, IsOneLine, Lexeme, spelling, Begins, ident, IsGap, IsTextOf, val_name, equals, comma, Item, WellFormed, lexed_of, IsStrError, Before, ParseError, kind_of, HasLocation, HasLocationAfter, IsPlacedAfter, IsRefusalAt, IsLocatedAfter, IsLines, moved, is_name, EndsIn, newlines, IsLineText, IsPlace, PrefixSpells, TakesOver, TakesPrefix, StartsAt, SpellEachFrom, TextSpellsFrom, PrefixSpellsFrom, TakesFrom, HasStarts, starts_of, TextStops, at_end_of}

@@ -3,7 +3,7 @@ pub use Rattle.souper_errors.specs.Errors.{kind_of, HasLocation, HasLocationAfte
 pub use Rattle.souper_errors.specs.Places.{EndsIn, IsLines, newlines, IsLineText, IsPlace}
 pub use Rattle.souper_errors.specs.declared.error.Before.{Before}
 pub use Rattle.souper_errors.specs.declared.error.ParseError.{ParseError}
-pub use Rattle.souper_graph.specs.Syntax.Spelling.{kinds, ItemType, list_spells, TextSpells, left_hand_side, right_hand_side, replacement, SpellsNone}
+pub use Rattle.souper_graph.specs.Syntax.Spelling.{kinds, ItemType, TextSpells, left_hand_side, right_hand_side, replacement, SpellsNone}
 pub use Rattle.souper_graph.specs.Syntax.Tokens.{IsOneLine, Lexeme, spelling, Begins, ident, IsGap, IsTextOf, val_name, equals, comma, colon}
 pub use Rattle.souper_graph.specs.Values.{Item}
 pub use Rattle.souper_graph.specs.WellFormed.{WellFormed}

@@ -5,14 +5,13 @@ use Rattle.std.proofs.lemmas.List.{take-append-drop}
 use Rattle.souper_graph.specs.Values.{PlainStatement, Ending, inferred, resulting, replaced, candidate, Item}
 use Rattle.souper_graph.specs.Uses.{Has, Use, value_use, position_of as use_position, uses_of_operand, roots_of}
 use Rattle.souper_graph.specs.Unneeded.{EachClosed}
-use Rattle.souper_graph.specs.Syntax.Spelling.{ItemType}
 use Rattle.souper_graph.proofs.Judging.Needed.{met-inside}
 use Rattle.souper_graph.proofs.RoundTrip.Parts.{Part, newline, words_of, AreSound, sound_append}
 use Rattle.souper_graph.proofs.RoundTrip.Nodes.{parts_of_lines, parts_of_infer, parts_of_cand, parts_of_result, listed_parts}
 use Rattle.souper_graph.proofs.RoundTrip.Ready.{Known, AreKnown, AreReady, known_left, known_after, ready_first, ready_second}
 use Rattle.souper_graph.proofs.RoundTrip.Scopes.{known, ready}
 use Rattle.souper_graph.proofs.RoundTrip.Sound.{infer_sound, infer_then, cand_sound, result_sound, lines_then}
-use Rattle.souper_graph.specs.Syntax.Forms.{lines, type_of, item, result}
+use Rattle.souper_graph.specs.Syntax.Spelling.{ItemType, ending_type, lines, item, result}
 use Rattle.souper_graph.proofs.RoundTrip.Spelled.{in_turn, ended, infer_spelled, cand_spelled, result_spelled, lines_spelled}
 
 -- an infer line that a result follows has its value before it
@@ -84,8 +83,8 @@ listed_sound ss (candidate c) lead ec l =
     lines_then [] ss ss (parts_of_cand ss c) (all_ready ss (candidate c) ec)
     (cand_sound ss ss c (ready_first ss ss c.lhs c.rhs ec.ending_fits.0 k) (ready_second ss ss c.lhs c.rhs ec.ending_fits.1 k) ec.ending_fits.2)
 
-pub item_spelled : (k : ItemType) (a : Item) (lead : ℕ) → EachClosed a → type_of a.ending ≡ k → Leads lead a.ending → item k a (words_of (listed_parts a.statements a.ending lead))
-item_spelled k a lead ec t l = (t, lines_listed a.statements a.ending lead ec l)
+pub item_spelled : (k : ItemType) (a : Item) (lead : ℕ) → EachClosed a → ending_type a.ending ≡ k → Leads lead a.ending → item k a (words_of (listed_parts a.statements a.ending lead))
+item_spelled k a lead ec t l = (t, a.statements, refl, lines_listed a.statements a.ending lead ec l)
 
 pub item_sound : (a : Item) (lead : ℕ) → EachClosed a → Leads lead a.ending → AreSound (listed_parts a.statements a.ending lead)
 item_sound a lead ec l = listed_sound a.statements a.ending lead ec l

@@ -12,13 +12,12 @@ use Rattle.souper_graph.specs.Unneeded.{EachClosed, SameNeeded, AllNeeded}
 use Rattle.souper_graph.specs.Sameness.{carried, carried_ending, place, renumbered, SameGraph}
 use Rattle.souper_graph.specs.ItemText.{IsWellFormedOf, AreWellFormed, ReadsBack}
 use Rattle.souper_graph.specs.Syntax.Tokens.{Lexeme, IsTextOf}
-use Rattle.souper_graph.specs.Syntax.Spelling.{ItemType, left_hand_side, right_hand_side, replacement, IsEndingOf, item_spells, list_spells, TextSpells}
+use Rattle.souper_graph.specs.Syntax.Spelling.{ItemType, IsEndingOf, item, items, TextSpells}
 use Rattle.souper_graph.proofs.Lists.{Has-left, Has-right, Has-here, Has-later}
 use Rattle.souper_graph.proofs.Sameness.Indices.{Has-at, place-at}
 use Rattle.souper_graph.proofs.Judging.Needed.{statement_at, root-walked, well_formed_stands}
 use Rattle.souper_graph.proofs.Sameness.PrintedOrder.{printed-once}
 use Rattle.souper_graph.proofs.Sameness.Renumbered.{numbered, numbered_item, renumbered-is, needs, stood-needed, numbered-at, numbered-needed, renumbered-well, renumbered-same, renumbered-graph, unneeded-well, unneeded-graph}
-use Rattle.souper_graph.proofs.FormsAgree.Items.{ending_to, item_from}
 use Rattle.souper_graph.proofs.RoundTrip.Parts.{Part, newline, printed, placed, words_of, AreSound, text_from_parts, printed_append, placed_words, words_append}
 use Rattle.souper_graph.proofs.RoundTrip.Nodes.{listed_parts, text_of_lines, listed_text}
 use Rattle.souper_graph.proofs.RoundTrip.Texts.{listed_is}
@@ -125,62 +124,52 @@ module _ (a : Item) (wa : WellFormed a) where
   unfolding canonical_parts
   parts-sound = item_sound (renumbered a) (lead_of a) renumbered-closed renumbered-leads
 
-  pub parts-spell : (k : ItemType) → IsEndingOf k (renumbered a).ending → item_spells k (renumbered a) (words_of canonical_parts)
+  pub parts-spell : (k : ItemType) → IsEndingOf k (renumbered a).ending → item k (renumbered a) (words_of canonical_parts)
   unfolding canonical_parts
-  parts-spell k t =
-      item_from k (renumbered a) (words_of canonical_parts)
-      (item_spelled k (renumbered a) (lead_of a) renumbered-closed (ending_to k (renumbered a).ending t) renumbered-leads)
+  parts-spell k t = item_spelled k (renumbered a) (lead_of a) renumbered-closed t renumbered-leads
 
 ending-kept : (k : ItemType) (f : ℕ → ℕ) (e : Ending) → IsEndingOf k e → IsEndingOf k (carried_ending f e)
-ending-kept left_hand_side f (inferred i) h = tt
-ending-kept left_hand_side f (resulting r) h = h
-ending-kept left_hand_side f (replaced i r) h = h
-ending-kept left_hand_side f (candidate c) h = h
-ending-kept right_hand_side f (inferred i) h = h
-ending-kept right_hand_side f (resulting r) h = tt
-ending-kept right_hand_side f (replaced i r) h = h
-ending-kept right_hand_side f (candidate c) h = h
-ending-kept replacement f (inferred i) h = h
-ending-kept replacement f (resulting r) h = h
-ending-kept replacement f (replaced i r) h = tt
-ending-kept replacement f (candidate c) h = tt
+ending-kept k f (inferred i) h = h
+ending-kept k f (resulting r) h = h
+ending-kept k f (replaced i r) h = h
+ending-kept k f (candidate c) h = h
 
 -- ---- lists
 
-list_parts : (k : ItemType) (items : List Item) → AreWellFormed k items → List Part
+list_parts : (k : ItemType) (xs : List Item) → AreWellFormed k xs → List Part
 list_parts k [] h = []
-list_parts k (a ∷ items) h = (canonical_parts a h.0.0 ++ newline ∷ []) ++ list_parts k items h.1
+list_parts k (a ∷ xs) h = (canonical_parts a h.0.0 ++ newline ∷ []) ++ list_parts k xs h.1
 
-list-text : (k : ItemType) (items : List Item) (h : AreWellFormed k items) → printed (list_parts k items h) ≡ texts_of items
+list-text : (k : ItemType) (xs : List Item) (h : AreWellFormed k xs) → printed (list_parts k xs h) ≡ texts_of xs
 unfolding list_parts
 list-text k [] h = refl
-list-text k (a ∷ items) h =
-    printed_append (canonical_parts a h.0.0 ++ newline ∷ []) (list_parts k items h.1)
-    ∙ (λ j. (printed_append (canonical_parts a h.0.0) (newline ∷ []) ∙ ap (λ (l : List ℕ). l ++ 10 ∷ []) (parts-text a h.0.0)) j ++ list-text k items h.1 j)
+list-text k (a ∷ xs) h =
+    printed_append (canonical_parts a h.0.0 ++ newline ∷ []) (list_parts k xs h.1)
+    ∙ (λ j. (printed_append (canonical_parts a h.0.0) (newline ∷ []) ∙ ap (λ (l : List ℕ). l ++ 10 ∷ []) (parts-text a h.0.0)) j ++ list-text k xs h.1 j)
 
-list-sound : (k : ItemType) (items : List Item) (h : AreWellFormed k items) → AreSound (list_parts k items h)
+list-sound : (k : ItemType) (xs : List Item) (h : AreWellFormed k xs) → AreSound (list_parts k xs h)
 unfolding list_parts
 list-sound k [] h = tt
-list-sound k (a ∷ items) h = line_then (canonical_parts a h.0.0) (list_parts k items h.1) (parts-sound a h.0.0) (list-sound k items h.1)
+list-sound k (a ∷ xs) h = line_then (canonical_parts a h.0.0) (list_parts k xs h.1) (parts-sound a h.0.0) (list-sound k xs h.1)
 
-list-spelled : (k : ItemType) (items : List Item) (h : AreWellFormed k items) → list_spells k (map renumbered items) (words_of (list_parts k items h))
+list-spelled : (k : ItemType) (xs : List Item) (h : AreWellFormed k xs) → items k (map renumbered xs) (words_of (list_parts k xs h))
 unfolding list_parts
 list-spelled k [] h = refl
-list-spelled k (a ∷ items) h = record {
+list-spelled k (a ∷ xs) h = record {
   prefix = words_of (canonical_parts a h.0.0);
-  suffix = words_of (list_parts k items h.1);
-  whole = words_append (canonical_parts a h.0.0 ++ newline ∷ []) (list_parts k items h.1) ∙ ap (λ (ts : List Lexeme). ts ++ words_of (list_parts k items h.1)) (before_newline (canonical_parts a h.0.0));
+  suffix = words_of (list_parts k xs h.1);
+  whole = words_append (canonical_parts a h.0.0 ++ newline ∷ []) (list_parts k xs h.1) ∙ ap (λ (ts : List Lexeme). ts ++ words_of (list_parts k xs h.1)) (before_newline (canonical_parts a h.0.0));
   first = parts-spell a h.0.0 k (ending-kept k (place (printed_order a)) a.ending h.0.1);
-  second = list-spelled k items h.1;
+  second = list-spelled k xs h.1;
 }
 
 -- the canonical texts of well-formed items spell the renumbered items
-pub texts-read-back : (k : ItemType) (items : List Item) → AreWellFormed k items → TextSpells k (texts_of items) (map renumbered items)
-texts-read-back k items h =
-    let ps = list_parts k items h in (
+pub texts-read-back : (k : ItemType) (xs : List Item) → AreWellFormed k xs → TextSpells k (texts_of xs) (map renumbered xs)
+texts-read-back k xs h =
+    let ps = list_parts k xs h in (
       placed 0 ps,
-      subst (λ (bs : List ℕ). IsTextOf bs (placed 0 ps)) (list-text k items h) (text_from_parts ps (list-sound k items h)),
-      subst (list_spells k (map renumbered items)) (sym (placed_words ps 0)) (list-spelled k items h),
+      subst (λ (bs : List ℕ). IsTextOf bs (placed 0 ps)) (list-text k xs h) (text_from_parts ps (list-sound k xs h)),
+      subst (items k (map renumbered xs)) (sym (placed_words ps 0)) (list-spelled k xs h),
     )
 
 -- the text of a well-formed item reads back

@@ -15,16 +15,13 @@ use Rattle.souper_graph.specs.Text.{name_at}
 use Rattle.souper_graph.specs.WellFormed.{FitsOptionalType, FitsConstant, FitsAttribute, FitsRootAttribute, FitsInfer, predecessors_at}
 use Rattle.souper_graph.specs.Syntax.Tokens.{Lexeme, ident, val_name, known_bits, int, comma, colon, equals, open_paren, close_paren, open_bracket}
 use Rattle.souper_graph.specs.Syntax.Numbers.{number_of, count_of}
-use Rattle.souper_graph.specs.Syntax.Spelling.{Scope, position_of}
 use Rattle.souper_graph.proofs.RoundTrip.Parts.{Part, word as part, one_space, newline, words_of, words_append}
 use Rattle.souper_graph.proofs.RoundTrip.Lexemes.{number_spelled, count_spelled, width_spelled}
 use Rattle.souper_graph.proofs.RoundTrip.Nodes.{parts_of_optional_type, parts_of_constant, parts_of_attribute, parts_of_root_attribute, attribute_parts, parts_of_attributes, root_attribute_parts, parts_of_root_attributes, parts_of_operand, further_parts, parts_of_further, parts_of_operands, parts_of_rhs, parts_of_pair, parts_of_statement, line_parts, parts_of_lines, parts_of_infer, parts_of_cand, parts_of_result}
 use Rattle.souper_graph.proofs.RoundTrip.Ready.{ReadyOperand, ReadyRhs, ReadyStatement, AreReady, Known, AreKnown, known_here, known_after, ready_operands, ready_rhs, ready_first, ready_second}
-use Rattle.souper_graph.specs.Syntax.Forms.{Form, ◌·◌, token, each, perhaps, optional, of_type, constant, operand, further, operands, rhs, enclosed, attribute, root_attribute, statement, statements, infer, result, cand}
-use Rattle.souper_graph.proofs.FormsAgree.Parts.{next, next_one}
-use Rattle.souper_graph.proofs.FormsAgree.Bits.{bits_is, known_bits_is}
-use Rattle.souper_graph.proofs.FormsAgree.RightSides.{next_block}
-use Rattle.souper_graph.proofs.FormsAgree.Attributes.{closed}
+use Rattle.souper_graph.specs.Syntax.Spelling.{Scope, position_of, Form, ◌·◌, token, each, perhaps, optional, of_type, constant, operand, further, operands, rhs, enclosed, attribute, root_attribute, statement, statements, infer, result, cand}
+use Rattle.souper_graph.proofs.Forms.Parts.{next, next_one, next_block, closed}
+use Rattle.souper_graph.proofs.Forms.Bits.{bits_is, known_bits_is}
 
 -- ---- parts in sequence
 

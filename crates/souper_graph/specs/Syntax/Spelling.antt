@@ -1,18 +1,14 @@
--- Definitions. Which tokens spell a value, defined from the finished value. Tokens have no offsets here.
-use Rattle.std.specs.Prelude.{◌≡◌, ◌⊎◌, ℕ, ℤ, suc, ◌<◌, ◌^◌, List, [], ◌∷◌, ◌++◌, map, length, Option, Some, None, codes, bytes_eq, if◌then◌else◌, option_map}
+-- Definitions. The grammar: which tokens spell a value. Names are looked up in the scope, the statements before the node.
+-- Tokens have no offsets here.
+use Rattle.std.specs.Prelude.{◌≡◌, ◌⊎◌, ℕ, suc, ◌<◌, ◌^◌, List, [], ◌∷◌, ◌++◌, map, length, Option, Some, None, codes, bytes_eq, if◌then◌else◌, option_map}
 use Rattle.souper_graph.specs.declared.ast.operands.«Type».{«Type» as Ty}
 use Rattle.souper_graph.specs.declared.ast.operands.Constant.{Constant}
 use Rattle.souper_graph.specs.declared.ast.operands.Operand.{Operand}
 use Rattle.souper_graph.specs.declared.ast.operands.Operand.TheVariants.{Value, Constant as constant_variant}
-use Rattle.souper_graph.specs.declared.ast.instructions.Instruction.{Instruction}
-use Rattle.souper_graph.specs.declared.ast.statements.Block.{Block}
-use Rattle.souper_graph.specs.declared.ast.statements.Pc.{Pc}
-use Rattle.souper_graph.specs.declared.ast.statements.BlockPc.{BlockPc}
 use Rattle.souper_graph.specs.Instructions.{word_of, operands_of}
-use Rattle.souper_graph.specs.Leaves.{text_of_known_bit, text_of_bit}
-use Rattle.souper_graph.specs.Values.{PlainAttribute, known_bits as known_bits_attribute, power_of_two, negative, non_negative, non_zero, has_external_uses, sign_bits, range, PlainRootAttribute, demanded_bits, harvested_from_use, PlainPhi, PlainRhs, var, block, phi, reserved_inst, reserved_const, instruction, PlainAssignment, PlainStatement, assigned, condition, block_condition, PlainInfer, PlainCand, Ending, inferred, resulting, replaced, candidate, Item}
+use Rattle.souper_graph.specs.Values.{PlainAttribute, known_bits as known_bits_attribute, power_of_two, negative, non_negative, non_zero, has_external_uses, sign_bits, range, PlainRootAttribute, demanded_bits, harvested_from_use, PlainRhs, var, block, phi, reserved_inst, reserved_const, instruction, PlainStatement, assigned, condition, block_condition, PlainInfer, PlainCand, Ending, inferred, resulting, replaced, candidate, Item}
 use Rattle.souper_graph.specs.Syntax.Tokens.{Lexeme, ident, val_name, known_bits, int, comma, colon, equals, open_paren, close_paren, open_bracket, IsTextOf}
-use Rattle.souper_graph.specs.Syntax.Numbers.{number_of, count_of, width_of}
+use Rattle.souper_graph.specs.Syntax.Numbers.{number_of, count_of, width_of, bits_of, known_bits_of}
 
 -- tokens without their offsets
 abbrev pub kinds : List (ℕ × Lexeme) → List Lexeme
@@ -25,7 +21,7 @@ Scope = List PlainStatement
 -- a block's number of predecessors; none for any other right side
 abbrev pub predecessors_if_block : PlainRhs → Option ℕ
 predecessors_if_block (block b) = Some b.predecessors
-predecessors_if_block r = None
+predecessors_if_block _ = None
 
 -- the position of the assignment of a name, and the number of predecessors of its block, if the first statement is at k
 abbrev pub entry_from : ℕ → Scope → List ℕ → Option (ℕ × Option ℕ)
@@ -47,167 +43,170 @@ pub record Joined (P Q : List Lexeme → Type 0) (ts : List Lexeme) : Type 0 whe
   pub first : P prefix
   pub second : Q suffix
 
+-- ---- what forms are made of
+
+-- which tokens have the form
+abbrev pub Form : Type 1
+Form = List Lexeme → Type 0
+
+infixr 20 ◌·◌
+-- F, and then G
+abbrev pub ◌·◌ : Form → Form → Form
+F · G = Joined F G
+
+-- no token
+abbrev pub nothing : Form
+nothing = λ ts. ts ≡ []
+
+-- this token alone
+abbrev pub token : Lexeme → Form
+token t = λ ts. ts ≡ t ∷ []
+
+-- an Ident
+abbrev pub word : List ℕ → Form
+word w = token (ident w)
+
+-- a token of this kind, whose content is read as v: `one int number_of v` is an Int that is read as v
+abbrev pub one : {A : Type 0} → (List ℕ → Lexeme) → (List ℕ → Option A) → A → Form
+one kind read v = λ ts. (w : List ℕ) × (ts ≡ kind w ∷ []) × (read w ≡ Some v)
+
+-- nothing, or F
+abbrev pub perhaps : Form → Form
+perhaps F = λ ts. nothing ts ⊎ F ts
+
+-- the form of the value, if there is one
+abbrev pub optional : {A : Type 0} → (A → Form) → Option A → Form
+optional F None = nothing
+optional F (Some x) = F x
+
+-- the form of each, in sequence
+abbrev pub each : {A : Type 0} → (A → Form) → List A → Form
+each F [] = nothing
+each F (x ∷ xs) = F x · each F xs
+
 -- ---- operands
 
-abbrev pub type_spells : Ty → List Lexeme → Type 0
-type_spells t ts = (w : List ℕ) × (ts ≡ ident w ∷ []) × (width_of w ≡ Some t.width)
+-- type = an Ident 'i' and digits that read as 1 to 65535
+abbrev pub type : Ty → Form
+type t = one ident width_of t.width
 
--- `:` and the type, if there is one
-abbrev pub optional_type_spells : Option Ty → List Lexeme → Type 0
-optional_type_spells None ts = ts ≡ []
-optional_type_spells (Some t) ts = (rest : List Lexeme) × (ts ≡ colon ∷ rest) × type_spells t rest
+-- ':' type
+abbrev pub of_type : Ty → Form
+of_type t = token colon · type t
 
-pub record constant_spells (c : Constant) (ts : List Lexeme) : Type 0 where
-  pub word : List ℕ
-  pub rest : List Lexeme
-  pub whole : ts ≡ int word ∷ rest
-  pub value_is : number_of word ≡ Some c.value
-  pub ty_spelled : optional_type_spells c.ty rest
+-- constant = Int (':' type)?
+abbrev pub constant : Constant → Form
+constant c = one int number_of c.value · optional of_type c.ty
 
-abbrev pub operand_spells : Scope → Operand → List Lexeme → Type 0
-operand_spells s (Value i) ts = (n : List ℕ) × (ts ≡ val_name n ∷ []) × (position_of s n ≡ Some i)
-operand_spells s (constant_variant c) ts = constant_spells c ts
+-- the name of the value at i, a ValName
+abbrev pub value : Scope → ℕ → Form
+value s i = one val_name (position_of s) i
 
--- `,` before each
-abbrev pub further_spells : Scope → List Operand → List Lexeme → Type 0
-further_spells s [] ts = ts ≡ []
-further_spells s (x ∷ xs) ts = (rest : List Lexeme) × (ts ≡ comma ∷ rest) × Joined (operand_spells s x) (further_spells s xs) rest
+-- operand = ValName | constant
+abbrev pub operand : Scope → Operand → Form
+operand s (Value i) = value s i
+operand s (constant_variant c) = constant c
 
--- `,` between them
-abbrev pub operands_spells : Scope → List Operand → List Lexeme → Type 0
-operands_spells s [] ts = ts ≡ []
-operands_spells s (x ∷ xs) ts = Joined (operand_spells s x) (further_spells s xs) ts
+-- (',' operand)*
+abbrev pub further : Scope → List Operand → Form
+further s xs = each (λ x. token comma · operand s x) xs
 
--- two operands with nothing between them
-abbrev pub pair_spells : Scope → Operand → Operand → List Lexeme → Type 0
-pair_spells s x y ts = Joined (operand_spells s x) (operand_spells s y) ts
+-- operands with ',' between them
+abbrev pub operands : Scope → List Operand → Form
+operands s [] = nothing
+operands s (x ∷ xs) = operand s x · further s xs
 
 -- ---- right sides
 
-abbrev pub block_spells : Block → List Lexeme → Type 0
-block_spells b ts = (w : List ℕ) × (ts ≡ ident (codes "block") ∷ int w ∷ []) × (count_of (2 ^ 32) w ≡ Some b.predecessors)
+-- the name of the block at i, of whose number of predecessors this holds
+abbrev pub block_name : Scope → ℕ → (ℕ → Type 0) → Form
+block_name s i Is = λ ts. (n : ℕ) × Is n × one val_name (entry_of s) (i, Some n) ts
 
--- the name denotes a block, and each of its predecessors has a value
-pub record phi_spells (s : Scope) (p : PlainPhi) (ts : List Lexeme) : Type 0 where
-  pub name : List ℕ
-  pub rest : List Lexeme
-  pub whole : ts ≡ ident (codes "phi") ∷ val_name name ∷ rest
-  pub block_is : entry_of s name ≡ Some (p.block, Some (length p.values))
-  pub values_spelled : further_spells s p.values rest
+-- number = an Int in the range given below
+abbrev pub count : ℕ → Form
+count n = one int (count_of (2 ^ 32)) n
 
-abbrev pub instruction_spells : Scope → Instruction → List Lexeme → Type 0
-instruction_spells s i ts = (rest : List Lexeme) × (ts ≡ ident (word_of i) ∷ rest) × operands_spells s (operands_of i) rest
-
-abbrev pub rhs_spells : Scope → PlainRhs → List Lexeme → Type 0
-rhs_spells s var ts = ts ≡ ident (codes "var") ∷ []
-rhs_spells s (block b) ts = block_spells b ts
-rhs_spells s (phi p) ts = phi_spells s p ts
-rhs_spells s reserved_inst ts = ts ≡ ident (codes "reservedinst") ∷ []
-rhs_spells s reserved_const ts = ts ≡ ident (codes "reservedconst") ∷ []
-rhs_spells s (instruction i) ts = instruction_spells s i ts
+-- rhs = 'var' | 'block' number | phi | 'reservedinst' | 'reservedconst' | instruction
+-- phi = 'phi' ValName, then (',' operand) exactly once per predecessor of the block
+-- instruction = its word, then its operands with ',' between them
+abbrev pub rhs : Scope → PlainRhs → Form
+rhs s var = word (codes "var")
+rhs s (block b) = word (codes "block") · count b.predecessors
+rhs s (phi p) = word (codes "phi") · block_name s p.block (λ n. n ≡ length p.values) · further s p.values
+rhs s reserved_inst = word (codes "reservedinst")
+rhs s reserved_const = word (codes "reservedconst")
+rhs s (instruction i) = word (word_of i) · operands s (operands_of i)
 
 -- ---- attributes
 
--- a word between parentheses
-abbrev pub word_attribute : List ℕ → List Lexeme
-word_attribute w = open_paren ∷ ident w ∷ close_paren ∷ []
+-- '(' F ')'
+abbrev pub enclosed : Form → Form
+enclosed F = token open_paren · F · token close_paren
 
-pub record range_spells (low high : ℤ) (ts : List Lexeme) : Type 0 where
-  pub low_word : List ℕ
-  pub high_word : List ℕ
-  pub whole : ts ≡ open_paren ∷ ident (codes "range") ∷ equals ∷ open_bracket ∷ int low_word ∷ comma ∷ int high_word ∷ close_paren ∷ close_paren ∷ []
-  pub low_is : number_of low_word ≡ Some low
-  pub high_is : number_of high_word ≡ Some high
+-- attr = '(' KnownBits ')' | '(' 'powerOfTwo' ')' | '(' 'negative' ')' | '(' 'nonNegative' ')' | '(' 'nonZero' ')'
+--   | '(' 'hasExternalUses' ')' | '(' 'signBits' '=' number ')' | '(' 'range' '=' '[' Int ',' Int ')' ')'
+abbrev pub attribute : PlainAttribute → Form
+attribute (known_bits_attribute bits) = enclosed (one known_bits known_bits_of bits)
+attribute power_of_two = enclosed (word (codes "powerOfTwo"))
+attribute negative = enclosed (word (codes "negative"))
+attribute non_negative = enclosed (word (codes "nonNegative"))
+attribute non_zero = enclosed (word (codes "nonZero"))
+attribute has_external_uses = enclosed (word (codes "hasExternalUses"))
+attribute (sign_bits n) = enclosed (word (codes "signBits") · token equals · one int (count_of (2 ^ 8)) n)
+attribute (range low high) = enclosed (word (codes "range") · token equals · token open_bracket · one int number_of low · token comma · one int number_of high · token close_paren)
 
-abbrev pub attribute_spells : PlainAttribute → List Lexeme → Type 0
-attribute_spells (known_bits_attribute bits) ts = (ts ≡ open_paren ∷ known_bits (map text_of_known_bit bits) ∷ close_paren ∷ []) × (0 < length bits)
-attribute_spells power_of_two ts = ts ≡ word_attribute (codes "powerOfTwo")
-attribute_spells negative ts = ts ≡ word_attribute (codes "negative")
-attribute_spells non_negative ts = ts ≡ word_attribute (codes "nonNegative")
-attribute_spells non_zero ts = ts ≡ word_attribute (codes "nonZero")
-attribute_spells has_external_uses ts = ts ≡ word_attribute (codes "hasExternalUses")
-attribute_spells (sign_bits n) ts = (w : List ℕ) × (ts ≡ open_paren ∷ ident (codes "signBits") ∷ equals ∷ int w ∷ close_paren ∷ []) × (count_of (2 ^ 8) w ≡ Some n)
-attribute_spells (range low high) ts = range_spells low high ts
-
-abbrev pub root_attribute_spells : PlainRootAttribute → List Lexeme → Type 0
-root_attribute_spells (demanded_bits bits) ts = (ts ≡ open_paren ∷ ident (codes "demandedBits") ∷ equals ∷ int (map text_of_bit bits) ∷ close_paren ∷ []) × (0 < length bits)
-root_attribute_spells harvested_from_use ts = ts ≡ word_attribute (codes "harvestedFromUse")
-
--- in sequence
-abbrev pub attributes_spell : List PlainAttribute → List Lexeme → Type 0
-attributes_spell [] ts = ts ≡ []
-attributes_spell (x ∷ xs) ts = Joined (attribute_spells x) (attributes_spell xs) ts
-
-abbrev pub root_attributes_spell : List PlainRootAttribute → List Lexeme → Type 0
-root_attributes_spell [] ts = ts ≡ []
-root_attributes_spell (x ∷ xs) ts = Joined (root_attribute_spells x) (root_attributes_spell xs) ts
+-- rootattr = '(' 'demandedBits' '=' bits ')' | '(' 'harvestedFromUse' ')'
+-- bits = an Int of the digits 0 and 1 alone
+abbrev pub root_attribute : PlainRootAttribute → Form
+root_attribute (demanded_bits bits) = enclosed (word (codes "demandedBits") · token equals · one int bits_of bits)
+root_attribute harvested_from_use = enclosed (word (codes "harvestedFromUse"))
 
 -- ---- statements
 
--- its own name is not in the scope
-pub record assignment_spells (s : Scope) (a : PlainAssignment) (ts : List Lexeme) : Type 0 where
-  pub ty : List Lexeme
-  pub rhs : List Lexeme
-  pub attributes : List Lexeme
-  pub whole : ts ≡ val_name a.name ∷ (ty ++ equals ∷ (rhs ++ attributes))
-  pub name_is_new : position_of s a.name ≡ None
-  pub ty_spelled : optional_type_spells a.ty ty
-  pub rhs_spelled : rhs_spells s a.value rhs
-  pub attributes_spelled : attributes_spell a.attributes attributes
+-- a name that is not in scope
+abbrev pub new_name : Scope → List ℕ → Form
+new_name s n = λ ts. (ts ≡ val_name n ∷ []) × (position_of s n ≡ None)
 
-abbrev pub pc_spells : Scope → Pc → List Lexeme → Type 0
-pc_spells s p ts = (rest : List Lexeme) × (ts ≡ ident (codes "pc") ∷ rest) × pair_spells s p.x p.y rest
+-- statement = assignment | pc | blockpc
+-- assignment = ValName (':' type)? '=' rhs attr*
+-- pc = 'pc' operand operand
+-- blockpc = 'blockpc' ValName number operand operand
+abbrev pub statement : Scope → PlainStatement → Form
+statement s (assigned a) = new_name s a.name · optional of_type a.ty · token equals · rhs s a.value · each attribute a.attributes
+statement s (condition p) = word (codes "pc") · operand s p.x · operand s p.y
+statement s (block_condition p) = word (codes "blockpc") · block_name s p.block (λ n. p.predecessor < n) · count p.predecessor · operand s p.x · operand s p.y
 
--- the name denotes a block, and the number denotes one of its predecessors
-pub record block_pc_spells (s : Scope) (p : BlockPc) (ts : List Lexeme) : Type 0 where
-  pub name : List ℕ
-  pub number : List ℕ
-  pub predecessors : ℕ
-  pub rest : List Lexeme
-  pub whole : ts ≡ ident (codes "blockpc") ∷ val_name name ∷ int number ∷ rest
-  pub block_is : entry_of s name ≡ Some (p.block, Some predecessors)
-  pub number_is : count_of (2 ^ 32) number ≡ Some p.predecessor
-  pub within : p.predecessor < predecessors
-  pub operands_spelled : pair_spells s p.x p.y rest
-
-abbrev pub statement_spells : Scope → PlainStatement → List Lexeme → Type 0
-statement_spells s (assigned a) ts = assignment_spells s a ts
-statement_spells s (condition p) ts = pc_spells s p ts
-statement_spells s (block_condition p) ts = block_pc_spells s p ts
-
--- ---- last lines
-
-pub record infer_spells (s : Scope) (i : PlainInfer) (ts : List Lexeme) : Type 0 where
-  pub name : List ℕ
-  pub attributes : List Lexeme
-  pub whole : ts ≡ ident (codes "infer") ∷ val_name name ∷ attributes
-  pub value_is : position_of s name ≡ Some i.value
-  pub attributes_spelled : root_attributes_spell i.attributes attributes
-
--- nothing, or a comma
-abbrev pub IsOptionalComma : List Lexeme → Type 0
-IsOptionalComma ts = (ts ≡ []) ⊎ (ts ≡ comma ∷ [])
-
-pub record cand_spells (s : Scope) (c : PlainCand) (ts : List Lexeme) : Type 0 where
-  pub lhs : List Lexeme
-  pub between : List Lexeme
-  pub rhs : List Lexeme
-  pub attributes : List Lexeme
-  pub whole : ts ≡ ident (codes "cand") ∷ (lhs ++ (between ++ (rhs ++ attributes)))
-  pub lhs_spelled : operand_spells s c.lhs lhs
-  pub comma_or_none : IsOptionalComma between
-  pub rhs_spelled : operand_spells s c.rhs rhs
-  pub attributes_spelled : root_attributes_spell c.attributes attributes
-
-abbrev pub result_spells : Scope → Operand → List Lexeme → Type 0
-result_spells s r ts = (rest : List Lexeme) × (ts ≡ ident (codes "result") ∷ rest) × operand_spells s r rest
+-- each in the scope of those before it
+abbrev pub statements : Scope → List PlainStatement → Form
+statements s [] = nothing
+statements s (v ∷ vs) = statement s v · statements (s ++ v ∷ []) vs
 
 -- ---- items
 
--- statements in sequence, each in the scope of those before it
-abbrev pub Statements : Scope → List PlainStatement → List Lexeme → Type 0
-Statements s [] ts = ts ≡ []
-Statements s (v ∷ vs) ts = Joined (statement_spells s v) (Statements (s ++ v ∷ []) vs) ts
+-- infer = 'infer' ValName rootattr*
+abbrev pub infer : Scope → PlainInfer → Form
+infer s i = word (codes "infer") · value s i.value · each root_attribute i.attributes
+
+-- 'result' operand
+abbrev pub result : Scope → Operand → Form
+result s r = word (codes "result") · operand s r
+
+-- cand = 'cand' operand ','? operand rootattr*
+abbrev pub cand : Scope → PlainCand → Form
+cand s c = word (codes "cand") · operand s c.lhs · perhaps (token comma) · operand s c.rhs · each root_attribute c.attributes
+
+-- some first ones, and the last ones
+abbrev pub parted : {A : Type 0} → List A → (List A → List A → Form) → Form
+parted {A} xs F = λ ts. (first : List A) × (last : List A) × (xs ≡ first ++ last) × F first last ts
+
+-- lefthandside = statement* infer
+-- righthandside = statement* 'result' operand
+-- replacement = statement* infer statement* 'result' operand | statement* cand
+abbrev pub lines : Scope → List PlainStatement → Ending → Form
+lines s vs (inferred i) = statements s vs · infer (s ++ vs) i
+lines s vs (resulting r) = statements s vs · result (s ++ vs) r
+lines s vs (replaced i r) = parted vs (λ first last. statements s first · infer (s ++ first) i · statements (s ++ first) last · result (s ++ vs) r)
+lines s vs (candidate c) = statements s vs · cand (s ++ vs) c
 
 -- the types of items
 pub data ItemType : Type 0 where
@@ -215,71 +214,36 @@ pub data ItemType : Type 0 where
   right_hand_side : ItemType
   replacement : ItemType
 
--- the last lines belong to an item of the type
+-- the type of the items that end so
+abbrev pub ending_type : Ending → ItemType
+ending_type (inferred i) = left_hand_side
+ending_type (resulting r) = right_hand_side
+ending_type (replaced i r) = replacement
+ending_type (candidate c) = replacement
+
 abbrev pub IsEndingOf : ItemType → Ending → Type 0
-IsEndingOf left_hand_side (inferred i) = Unit {0}
-IsEndingOf right_hand_side (resulting r) = Unit {0}
-IsEndingOf replacement (replaced i r) = Unit {0}
-IsEndingOf replacement (candidate c) = Unit {0}
-IsEndingOf k e = ⊥
+IsEndingOf k e = ending_type e ≡ k
 
--- further statements, and what an item has besides its statements
-abbrev pub Tail : Type 0
-Tail = List PlainStatement × Ending
+-- the further lines of an item of this type, which begins with the statements of the scope
+abbrev pub item_after : ItemType → Scope → Item → Form
+item_after k s a = λ ts. (ending_type a.ending ≡ k) × (vs : List PlainStatement) × (a.statements ≡ s ++ vs) × lines s vs a.ending ts
 
--- an infer line, further statements and a result line
-pub record replaced_spells (s : Scope) (new : List PlainStatement) (i : PlainInfer) (r : Operand) (ts : List Lexeme) : Type 0 where
-  pub infer : List Lexeme
-  pub middle : List Lexeme
-  pub result : List Lexeme
-  pub whole : ts ≡ infer ++ (middle ++ result)
-  pub infer_spelled : infer_spells s i infer
-  pub middle_spelled : Statements s new middle
-  pub result_spelled : result_spells (s ++ new) r result
+abbrev pub item : ItemType → Item → Form
+item k a = item_after k [] a
 
--- what an item of the type has after its first statements: a replacement may have further ones after its infer line
-abbrev pub tail_spells : ItemType → Scope → Tail → List Lexeme → Type 0
-tail_spells left_hand_side s (new, inferred i) ts = (new ≡ []) × infer_spells s i ts
-tail_spells left_hand_side s (new, resulting r) ts = ⊥
-tail_spells left_hand_side s (new, replaced i r) ts = ⊥
-tail_spells left_hand_side s (new, candidate c) ts = ⊥
-tail_spells right_hand_side s (new, inferred i) ts = ⊥
-tail_spells right_hand_side s (new, resulting r) ts = (new ≡ []) × result_spells s r ts
-tail_spells right_hand_side s (new, replaced i r) ts = ⊥
-tail_spells right_hand_side s (new, candidate c) ts = ⊥
-tail_spells replacement s (new, inferred i) ts = ⊥
-tail_spells replacement s (new, resulting r) ts = ⊥
-tail_spells replacement s (new, replaced i r) ts = replaced_spells s new i r ts
-tail_spells replacement s (new, candidate c) ts = (new ≡ []) × cand_spells s c ts
+-- item*
+abbrev pub items : ItemType → List Item → Form
+items k xs = each (item k) xs
 
--- the item has the statements of the scope, and the tokens are its further statements, its last lines, and in a
--- replacement statements between these
-pub record item_spells_after (k : ItemType) (s : Scope) (a : Item) (ts : List Lexeme) : Type 0 where
-  pub first : List PlainStatement
-  pub last : List PlainStatement
-  pub head : List Lexeme
-  pub tail : List Lexeme
-  pub statements_are : a.statements ≡ (s ++ first) ++ last
-  pub whole : ts ≡ head ++ tail
-  pub head_spelled : Statements s first head
-  pub tail_spelled : tail_spells k (s ++ first) (last, a.ending) tail
-
--- an item is spelled in the empty scope
-abbrev pub item_spells : ItemType → Item → List Lexeme → Type 0
-item_spells k a ts = item_spells_after k [] a ts
-
--- items of one type, in sequence
-abbrev pub list_spells : ItemType → List Item → List Lexeme → Type 0
-list_spells k [] ts = ts ≡ []
-list_spells k (a ∷ rest) ts = Joined (item_spells k a) (list_spells k rest) ts
+-- ---- texts
 
 -- the text spells the items
 abbrev pub TextSpells : ItemType → List ℕ → List Item → Type 0
-TextSpells k bs items = (ts : List (ℕ × Lexeme)) × IsTextOf bs ts × list_spells k items (kinds ts)
+TextSpells k bs xs = (ts : List (ℕ × Lexeme)) × IsTextOf bs ts × items k xs (kinds ts)
 
 -- the text spells no list of items of the type
 abbrev pub SpellsNone : ItemType → List ℕ → Type 0
-SpellsNone k bs = (items : List Item) → TextSpells k bs items → ⊥
+SpellsNone k bs = (xs : List Item) → TextSpells k bs xs → ⊥
 
 -- a text spells at most one list of items of a type
 abbrev pub OneList : Type 0

@@ -167,7 +167,7 @@ impl Item for LeftHandSide {
 
     ghost puts = { λ item ss. refl };
 
-    ghost ends = { λ item. tt };
+    ghost ends = { λ item. refl };
 
     fn parts(&self) -> Parts<'_> {
         LeftHandSide::parts(self)
@@ -195,7 +195,7 @@ impl Item for RightHandSide {
 
     ghost puts = { λ item ss. refl };
 
-    ghost ends = { λ item. tt };
+    ghost ends = { λ item. refl };
 
     fn parts(&self) -> Parts<'_> {
         RightHandSide::parts(self)

@@ -8,7 +8,7 @@ use Rattle.std.proofs.lemmas.Grind.{flat_map-append}
 use Rattle.souper_graph.specs.Names.{is_name_char}
 use Rattle.souper_graph.specs.Values.{Item}
 use Rattle.souper_graph.specs.Syntax.Tokens.{Lexeme, ident, val_name, known_bits, int, comma, colon, equals, open_paren, close_paren, open_bracket, spelling, known_bits_word, is_bit, begins_int, AllAre, IsLexeme, continues, Stops, Piece, piece_text, IsPiece, IsGap, IsOneLine, IsLastComment, IsLastGap, Begins, IsTextOf}
-use Rattle.souper_graph.specs.Syntax.Spelling.{kinds, ItemType, list_spells}
+use Rattle.souper_graph.specs.Syntax.Spelling.{kinds, ItemType, items}
 use Rattle.souper_lexer.proofs.TokenFront.{spelled_some}
 use Rattle.souper_lexer.proofs.TokenLaws.{begins_length, begins_append}
 use Rattle.souper_errors.specs.Places.{IsLines}
@@ -222,8 +222,8 @@ pub kinds_moved : (d : ℕ) (ts : List (ℕ × Lexeme)) → kinds (moved d ts) �
 kinds_moved d [] = refl
 kinds_moved d (t ∷ ts) = ap (λ (l : List Lexeme). t.1 ∷ l) (kinds_moved d ts)
 
-pub list_append : (k : ItemType) (xs ys : List Item) (a b : List Lexeme) → list_spells k xs a → list_spells k ys b → list_spells k (xs ++ ys) (a ++ b)
-list_append k [] ys a b m n = subst (λ (l : List Lexeme). list_spells k ys (l ++ b)) (sym m) n
+pub list_append : (k : ItemType) (xs ys : List Item) (a b : List Lexeme) → items k xs a → items k ys b → items k (xs ++ ys) (a ++ b)
+list_append k [] ys a b m n = subst (λ (l : List Lexeme). items k ys (l ++ b)) (sym m) n
 list_append k (x ∷ xs) ys a b m n = record {
   prefix = m.prefix;
   suffix = m.suffix ++ b;
@@ -236,4 +236,4 @@ pub items_join : ItemsJoin
 items_join k a b xs ys l s t =
     let kinds_are : kinds s.0 ++ kinds t.0 ≡ kinds (s.0 ++ moved (length a) t.0) =
     ap (λ (x : List Lexeme). kinds s.0 ++ x) (sym (kinds_moved (length a) t.0)) ∙ sym (kinds-append s.0 (moved (length a) t.0)) in
-    (s.0 ++ moved (length a) t.0, tokens_join a b s.0 t.0 l s.1 t.1, subst (λ (x : List Lexeme). list_spells k (xs ++ ys) x) kinds_are (list_append k xs ys (kinds s.0) (kinds t.0) s.2 t.2))
+    (s.0 ++ moved (length a) t.0, tokens_join a b s.0 t.0 l s.1 t.1, subst (λ (x : List Lexeme). items k (xs ++ ys) x) kinds_are (list_append k xs ys (kinds s.0) (kinds t.0) s.2 t.2))

@@ -9,7 +9,7 @@ use Rattle.souper_graph.specs.Sameness.{renumbered, SameGraph}
 use Rattle.souper_graph.specs.Renaming.{SameUpToNames, renamed, IsRenamed}
 use Rattle.souper_graph.specs.ItemText.{IsWellFormedOf, AreWellFormed}
 use Rattle.souper_graph.specs.Syntax.Tokens.{Lexeme}
-use Rattle.souper_graph.specs.Syntax.Spelling.{kinds, Scope, ItemType, left_hand_side, right_hand_side, replacement, IsEndingOf, tail_spells, item_spells, list_spells, TextSpells}
+use Rattle.souper_graph.specs.Syntax.Spelling.{kinds, ItemType, items, TextSpells, statements}
 use Rattle.souper_graph.proofs.RoundTrip.ReadBack.{renumbered-closed, renumbered-needed, texts-read-back, same-graph-text}
 use Rattle.souper_graph.proofs.Judging.Needed.{well_formed_below}
 use Rattle.souper_graph.proofs.Sameness.Renumbered.{same-renumbered, ordered}
@@ -19,39 +19,22 @@ use Rattle.souper_ir.proofs.Items.WellFormed.{closed_well, text_closed}
 
 -- ---- the items of a text
 
-ending_of_type : (k : ItemType) (s : Scope) (new : List PlainStatement) (e : Ending) (ts : List Lexeme) → tail_spells k s (new, e) ts → IsEndingOf k e
-ending_of_type left_hand_side s new (inferred i) ts h = tt
-ending_of_type left_hand_side s new (resulting r) ts h = h
-ending_of_type left_hand_side s new (replaced i r) ts h = h
-ending_of_type left_hand_side s new (candidate c) ts h = h
-ending_of_type right_hand_side s new (inferred i) ts h = h
-ending_of_type right_hand_side s new (resulting r) ts h = tt
-ending_of_type right_hand_side s new (replaced i r) ts h = h
-ending_of_type right_hand_side s new (candidate c) ts h = h
-ending_of_type replacement s new (inferred i) ts h = h
-ending_of_type replacement s new (resulting r) ts h = h
-ending_of_type replacement s new (replaced i r) ts h = tt
-ending_of_type replacement s new (candidate c) ts h = tt
-
-item_of_type : (k : ItemType) (a : Item) (ts : List Lexeme) → item_spells k a ts → IsEndingOf k a.ending
-item_of_type k a ts h = ending_of_type k ([] ++ h.first) h.last a.ending h.tail h.tail_spelled
-
-well_formed_each : (k : ItemType) (items : List Item) (ts : List Lexeme) → AllByRecursion EachClosed items → list_spells k items ts → AreWellFormed k items
+well_formed_each : (k : ItemType) (xs : List Item) (ts : List Lexeme) → AllByRecursion EachClosed xs → items k xs ts → AreWellFormed k xs
 well_formed_each k [] ts c h = tt
-well_formed_each k (a ∷ items) ts c h = ((closed_well a c.0, item_of_type k a h.prefix h.first), well_formed_each k items h.suffix c.1 h.second)
+well_formed_each k (a ∷ xs) ts c h = ((closed_well a c.0, h.first.0), well_formed_each k xs h.suffix c.1 h.second)
 
 -- the items that a text spells are well formed and of its type
-pub spelled_well_formed : (k : ItemType) (bs : List ℕ) (items : List Item) → TextSpells k bs items → AreWellFormed k items
-spelled_well_formed k bs items h = well_formed_each k items (kinds h.0) (text_closed k items bs h) h.2
+pub spelled_well_formed : (k : ItemType) (bs : List ℕ) (xs : List Item) → TextSpells k bs xs → AreWellFormed k xs
+spelled_well_formed k bs xs h = well_formed_each k xs (kinds h.0) (text_closed k xs bs h) h.2
 
 -- ---- canonical texts
 
 -- the canonical texts of items spell no other list
-pub texts_exact : (k : ItemType) (items others : List Item) → AreWellFormed k items → TextSpells k (texts_of items) others → others ≡ map renumbered items
-texts_exact k items others h s = text_alone k (texts_of items) others (map renumbered items) s (texts-read-back k items h)
+pub texts_exact : (k : ItemType) (xs others : List Item) → AreWellFormed k xs → TextSpells k (texts_of xs) others → others ≡ map renumbered xs
+texts_exact k xs others h s = text_alone k (texts_of xs) others (map renumbered xs) s (texts-read-back k xs h)
 
-pub texts_spell : (k : ItemType) (items others : List Item) → AreWellFormed k items → others ≡ map renumbered items → TextSpells k (texts_of items) others
-texts_spell k items others h e = subst (TextSpells k (texts_of items)) (sym e) (texts-read-back k items h)
+pub texts_spell : (k : ItemType) (xs others : List Item) → AreWellFormed k xs → others ≡ map renumbered xs → TextSpells k (texts_of xs) others
+texts_spell k xs others h e = subst (TextSpells k (texts_of xs)) (sym e) (texts-read-back k xs h)
 
 heads : {A : Type 0} (x y : A) → x ∷ [] ≡ y ∷ [] → x ≡ y
 heads x y e = cc
@@ -79,10 +62,10 @@ one_text_up_to_names k a b x y wa wb rx ry =
     )
 
 -- what a canonical text spells has closed and needed statements alone
-each_defined : (k : ItemType) (items : List Item) → AreWellFormed k items → AllByRecursion (λ (b : Item). EachClosed b × AllNeeded b) (map renumbered items)
+each_defined : (k : ItemType) (xs : List Item) → AreWellFormed k xs → AllByRecursion (λ (b : Item). EachClosed b × AllNeeded b) (map renumbered xs)
 each_defined k [] h = tt
-each_defined k (a ∷ items) h = ((renumbered-closed a h.0.0, renumbered-needed a h.0.0), each_defined k items h.1)
+each_defined k (a ∷ xs) h = ((renumbered-closed a h.0.0, renumbered-needed a h.0.0), each_defined k xs h.1)
 
-pub texts_defined : (k : ItemType) (items others : List Item) → AreWellFormed k items → TextSpells k (texts_of items) others → AllByRecursion (λ (b : Item). EachClosed b × AllNeeded b) others
-texts_defined k items others h s =
-    subst (λ (l : List Item). AllByRecursion (λ (b : Item). EachClosed b × AllNeeded b) l) (sym (texts_exact k items others h s)) (each_defined k items h)
+pub texts_defined : (k : ItemType) (xs others : List Item) → AreWellFormed k xs → TextSpells k (texts_of xs) others → AllByRecursion (λ (b : Item). EachClosed b × AllNeeded b) others
+texts_defined k xs others h s =
+    subst (λ (l : List Item). AllByRecursion (λ (b : Item). EachClosed b × AllNeeded b) l) (sym (texts_exact k xs others h s)) (each_defined k xs h)

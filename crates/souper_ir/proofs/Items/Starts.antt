@@ -4,7 +4,7 @@ use Rattle.std.proofs.lemmas.List.{append-nil}
 use Rattle.std.specs.Prelude.{is_some, option_map}
 use Rattle.souper_graph.specs.Values.{PlainStatement, Item}
 use Rattle.souper_graph.specs.Syntax.Tokens.{Lexeme}
-use Rattle.souper_graph.specs.Syntax.Spelling.{kinds, ItemType, item_spells, item_spells_after}
+use Rattle.souper_graph.specs.Syntax.Spelling.{kinds, ItemType, item_after, items, item}
 use Rattle.souper_ir.specs.declared.parse.memory.Kept.{Kept}
 use Rattle.souper_ir.specs.declared.parse.memory.Memory.{Memory}
 use Rattle.souper_ir.specs.Continuation.{item_continues}
@@ -15,7 +15,7 @@ use Rattle.souper_ir.specs.Starts.{StartsAt, SpellEachFrom, TakesFrom, HasStarts
 use Rattle.souper_ir.proofs.Items.Lists.{item_some}
 
 -- one item more
-pub each_push : (k : ItemType) (items : List Item) (starts : List ℕ) (a : Item) (start : ℕ) (ts us : List (ℕ × Lexeme)) → SpellEachFrom k items starts ts → StartsAt start us → item_spells k a (kinds us)
+pub each_push : (k : ItemType) (items : List Item) (starts : List ℕ) (a : Item) (start : ℕ) (ts us : List (ℕ × Lexeme)) → SpellEachFrom k items starts ts → StartsAt start us → item k a (kinds us)
     → SpellEachFrom k (items ++ a ∷ []) (starts ++ start ∷ []) (ts ++ us)
 each_push k [] [] a start ts us m at sp = record { used = us; others = []; whole = ap (λ (x : List (ℕ × Lexeme)). x ++ us) m ∙ sym (append-nil us); starts = at; spelled = sp; further = refl }
 each_push k [] (n ∷ starts) a start ts us m at sp = absurd m
@@ -30,16 +30,16 @@ each_push k (b ∷ items) (n ∷ starts) a start ts us m at sp = record {
 }
 
 -- an item begins where the tokens that are left begin
-pub starts_used : (k : ItemType) (a : Item) (start : ℕ) (used others ts : List (ℕ × Lexeme)) → ts ≡ used ++ others → item_spells k a (kinds used) → StartsAt start ts → StartsAt start used
+pub starts_used : (k : ItemType) (a : Item) (start : ℕ) (used others ts : List (ℕ × Lexeme)) → ts ≡ used ++ others → item k a (kinds used) → StartsAt start ts → StartsAt start used
 starts_used k a start [] others ts e sp at = absurd (item_some k a [] [] sp refl)
 starts_used k a start (t ∷ used) others ts e sp at = subst (λ (x : List (ℕ × Lexeme)). StartsAt start x) e at
 
 -- an item was taken after others
-pub begun : (k : ItemType) (items : List Item) (starts : List ℕ) (a : Item) (start : ℕ) (p q r : Parsing) (so : ItemsTaken k items p q) (took : Took (item_spells_after k) item_continues (λ s. []) a q r)
+pub begun : (k : ItemType) (items : List Item) (starts : List ℕ) (a : Item) (start : ℕ) (p q r : Parsing) (so : ItemsTaken k items p q) (took : Took (item_after k) item_continues (λ s. []) a q r)
     → SpellEachFrom k items starts so.used → StartsAt start q.tokens → SpellEachFrom k (items ++ a ∷ []) (starts ++ start ∷ []) (so.used ++ took.used)
 begun k items starts a start p q r so took each at =
     let scope : q.scope ≡ [] = ap (λ (x : Parsing). x.scope) so.state ∙ so.empty in
-    let sp : item_spells k a (kinds took.used) = subst (λ (x : List PlainStatement). item_spells_after k x a (kinds took.used)) scope took.spelled in
+    let sp : item k a (kinds took.used) = subst (λ (x : List PlainStatement). item_after k x a (kinds took.used)) scope took.spelled in
     each_push k items starts a start so.used took.used each (starts_used k a start took.used r.tokens q.tokens took.parts sp at) sp
 
 after_none : (starts : Option (List ℕ)) → starts ≡ option_map (λ before. before ++ []) starts

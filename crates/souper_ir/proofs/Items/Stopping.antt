@@ -5,8 +5,7 @@ use Rattle.souper_graph.specs.Values.{PlainStatement, PlainInfer, PlainAttribute
 use Rattle.souper_graph.specs.declared.ast.operands.«Type».{«Type» as Ty}
 use Rattle.souper_graph.specs.Syntax.Tokens.{Lexeme, open_paren}
 use Rattle.souper_graph.specs.Syntax.TokenLaws.{AreTokensOf}
-use Rattle.souper_graph.specs.Syntax.Spelling.{infer_spells, ItemType}
-use Rattle.souper_graph.specs.Syntax.Forms.{attribute as attribute_form, root_attribute as root_attribute_form}
+use Rattle.souper_graph.specs.Syntax.Spelling.{infer, ItemType, attribute as attribute_form, root_attribute as root_attribute_form}
 use Rattle.souper_lexer.specs.TokenView.{IsCut}
 use Rattle.souper_errors.specs.declared.error.ParseError.{ParseError}
 use Rattle.souper_ir.specs.declared.parse.item.Next.{Next}
@@ -155,9 +154,9 @@ replaced e p q seen h = if_refused (cause_of e) (λ bad live. inr (inl (here_see
 pub infer_stops : (e : ParseError) (p q : Parsing) → Sees true p q → Stops InferStops e q → Stops EndingStops e p
 infer_stops e p q seen h = replaced e p q seen (if_refused (cause_of e) (λ bad live. inl (bad live)) (subst (λ (x : Parsing). Stops InferStops e x) (same_seen true p q seen) h))
 
-pub middle_stops : (i : PlainInfer) (e : ParseError) (p q r : Parsing) → Sees true p q → Took infer_spells infer_continues (λ s. s) i q r → Stops (EitherStops ResultStops) e r → Stops EndingStops e p
+pub middle_stops : (i : PlainInfer) (e : ParseError) (p q r : Parsing) → Sees true p q → Took infer infer_continues (λ s. s) i q r → Stops (EitherStops ResultStops) e r → Stops EndingStops e p
 middle_stops i e p q r seen took h =
-    let here = subst (λ (x : Parsing). Took infer_spells infer_continues (λ s. s) i x r) (same_seen true p q seen) took in
+    let here = subst (λ (x : Parsing). Took infer infer_continues (λ s. s) i x r) (same_seen true p q seen) took in
     replaced e p q seen (if_refused (cause_of e) (λ bad live. inr (i, r, here, bad (ap (λ (x : Parsing). x.failed) here.state ∙ live))) h)
 
 pub cand_stops : (e : ParseError) (p q : Parsing) → Sees false p q → Stops CandStops e q → Stops EndingStops e p

@@ -9,7 +9,7 @@ use Rattle.souper_errors.specs.declared.error.Cause.{Cause as ErrorCause}
 use Rattle.souper_errors.specs.declared.error.Cause.TheVariants.{Io as IoCause, Parse as ParseCause, Memory as MemoryCause}
 use Rattle.souper_graph.specs.Syntax.Tokens.{Lexeme, spelling, IsLastGap, Begins, IsTextOf}
 use Rattle.souper_graph.specs.Syntax.TokenLaws.{AreTokensOf}
-use Rattle.souper_graph.specs.Syntax.Spelling.{kinds, ItemType, list_spells, TextSpells, SpellsNone}
+use Rattle.souper_graph.specs.Syntax.Spelling.{kinds, ItemType, items, TextSpells, SpellsNone}
 use Rattle.souper_errors.specs.Errors.{OnKind, kind_of, kind_of_cause, offset_of, offset_of_cause, HasLocation, IsRefusalAt, IsLocated}
 use Rattle.souper_ir.specs.Answers.{IsStrError}
 use Rattle.souper_ir.specs.Parsing.{Cause, refused, Parsing}
@@ -22,8 +22,8 @@ use Rattle.souper_ir.specs.Starts.{PrefixSpellsFrom, TakesFirst, TakesFrom}
 pub is_text : (bs : List ℕ) (ts : List (ℕ × Lexeme)) (faulty : Bool) → AreTokensOf bs ts faulty → faulty ≡ false → IsTextOf bs ts
 is_text bs ts faulty h e = (h.rest, h.front, h.ended e)
 
-pub all_spelled : (k : ItemType) (items : List Item) (bs : List ℕ) (p : Parsing) → AreTokensOf bs p.tokens p.faulty → SpellsAll k items p → TextSpells k bs items
-all_spelled k items bs p h all = (p.tokens, is_text bs p.tokens p.faulty h all.sound, all.spelled)
+pub all_spelled : (k : ItemType) (xs : List Item) (bs : List ℕ) (p : Parsing) → AreTokensOf bs p.tokens p.faulty → SpellsAll k xs p → TextSpells k bs xs
+all_spelled k xs bs p h all = (p.tokens, is_text bs p.tokens p.faulty h all.sound, all.spelled)
 
 -- a text of gaps alone has no tokens
 pub gap_text : (bs : List ℕ) → IsLastGap bs → IsTextOf bs []
@@ -42,10 +42,10 @@ offset_cause e o at = rw (offset_kind e.cause o at, at) refl
 -- the text spells no items if the parser refused
 none_spelled : (k : ItemType) (bs : List ℕ) (e : ParseError) (p q : Parsing) (o : ℕ) → p.failed ≡ None → ((ts : List (ℕ × Lexeme)) → IsTextOf bs ts → (p.tokens ≡ ts) × (p.faulty ≡ false))
     → ListRefusal k e p q → cause_of e ≡ Some (refused o) → SpellsNone k bs
-none_spelled k bs e p q o live only h cause items spelled =
+none_spelled k bs e p q o live only h cause xs spelled =
     let none = (subst (λ (x : Option Cause). IfRefused x (p.failed ≡ None → NoList k p)) cause h.nothing) live in
     let same = only spelled.0 spelled.1 in
-    none items same.1 (subst (λ (x : List (ℕ × Lexeme)). list_spells k items (kinds x)) (sym same.0) spelled.2)
+    none xs same.1 (subst (λ (x : List (ℕ × Lexeme)). items k xs (kinds x)) (sym same.0) spelled.2)
 
 module _ (k : ItemType) (file : Option (List ℕ)) (bs : List ℕ) (e new : ParseError) (p q : Parsing)
     (live : p.failed ≡ None) (len : p.len ≡ length bs)

@@ -4,8 +4,7 @@ use Rattle.std.specs.Prelude.{Result}
 use Rattle.souper_graph.specs.declared.ast.operands.Operand.{Operand}
 use Rattle.souper_errors.specs.declared.error.ParseError.{ParseError}
 use Rattle.souper_graph.specs.Values.{PlainAttribute}
-use Rattle.souper_graph.specs.Syntax.Spelling.{kinds}
-use Rattle.souper_graph.specs.Syntax.Forms.{attribute as attribute_form}
+use Rattle.souper_graph.specs.Syntax.Spelling.{kinds, attribute as attribute_form}
 use Rattle.souper_graph.specs.Syntax.Tokens.{Lexeme, val_name, int, comma, colon, equals, open_paren}
 use Rattle.souper_ir.specs.declared.parse.item.Next.TheVariants.{Assignment}
 use Rattle.souper_ir.specs.Grammar.{Comes, Free, Took, peek_at}

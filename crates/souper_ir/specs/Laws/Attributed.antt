@@ -4,8 +4,7 @@ use Rattle.std.proofs.Common.{◌≡◌, List, [], ◌∷◌, ◌++◌, sym, ◌
 use Rattle.souper_errors.specs.declared.error.ParseError.{ParseError}
 use Rattle.souper_ir.specs.Parsing.{Parsing}
 use Rattle.souper_graph.specs.Syntax.Tokens.{Lexeme, open_paren}
-use Rattle.souper_graph.specs.Syntax.Spelling.{Scope}
-use Rattle.souper_graph.specs.Syntax.Forms.{◌·◌}
+use Rattle.souper_graph.specs.Syntax.Spelling.{Scope, ◌·◌}
 use Rattle.souper_ir.specs.Continuation.{attributes_continue}
 use Rattle.souper_ir.specs.Grammar.{Free, Starts, Followed, Members, ListGoesOn, Took, Refusal}
 use Rattle.souper_ir.specs.Laws.Unique.{Alone, list_alone}

@@ -4,9 +4,8 @@ use Rattle.std.specs.Prelude.{ℤ, pos, codes}
 use Rattle.souper_graph.specs.Values.{PlainAttribute, known_bits as known_bits_attribute, power_of_two, negative, non_negative, non_zero, has_external_uses, sign_bits, range, PlainRootAttribute, demanded_bits, harvested_from_use}
 use Rattle.souper_graph.specs.Syntax.Tokens.{Lexeme, ident, known_bits, int, comma, equals, open_paren, close_paren, open_bracket}
 use Rattle.souper_graph.specs.Syntax.Numbers.{number_of, count_of, bits_of, known_bits_of}
-use Rattle.souper_graph.specs.Syntax.Spelling.{Scope}
-use Rattle.souper_graph.specs.Syntax.Forms.{Form, ◌·◌, nothing, token, word, one, each, enclosed, attribute, root_attribute}
-use Rattle.souper_graph.proofs.FormsAgree.Parts.{next}
+use Rattle.souper_graph.specs.Syntax.Spelling.{Scope, Form, ◌·◌, nothing, token, word, one, each, enclosed, attribute, root_attribute}
+use Rattle.souper_graph.proofs.Forms.Parts.{next}
 use Rattle.souper_ir.specs.Parsing.{Parsing}
 use Rattle.souper_ir.specs.Reading.{◌>>=◌}
 use Rattle.souper_ir.specs.declared.parse.attributes.RootKind.{RootKind}

@@ -6,7 +6,8 @@ use Rattle.souper_graph.specs.declared.ast.operands.Operand.{Operand}
 use Rattle.souper_graph.specs.Values.{PlainStatement, PlainInfer, PlainCand, Ending, inferred, resulting, replaced, candidate, Item}
 use Rattle.souper_errors.specs.declared.error.ParseError.{ParseError}
 use Rattle.souper_graph.specs.Syntax.Tokens.{Lexeme, ident}
-use Rattle.souper_graph.specs.Syntax.Spelling.{kinds, Scope, Joined, statement_spells, infer_spells, cand_spells, result_spells, Statements, ItemType, left_hand_side, right_hand_side, replacement, Tail, tail_spells, item_spells_after}
+use Rattle.souper_graph.specs.Syntax.Spelling.{kinds, Scope, Joined, statement, infer, cand, result, statements, ItemType, Form, ◌·◌, lines, ending_type, item_after}
+use Rattle.souper_graph.proofs.Forms.Parts.{both}
 use Rattle.souper_ir.specs.Continuation.{statement_continues, infer_continues, result_continues, item_continues}
 use Rattle.souper_errors.specs.Errors.{at_end_of}
 use Rattle.souper_ir.specs.Parsing.{Parsing}
@@ -17,7 +18,7 @@ use Rattle.souper_ir.specs.NodeReadings.{starts_statement, is_word}
 use Rattle.souper_ir.specs.Laws.Peeks.{peeked, peeked_yes, peeked_no, unread}
 use Rattle.souper_ir.specs.Laws.Steps.{kinds-append}
 use Rattle.souper_ir.specs.Laws.Statements.{statement_first, statement_alone, statement_ends, starts_begins, infer_first, infer_alone, infer_ends, cand_alone, result_alone}
-use Rattle.souper_ir.specs.Items.{Opens, tail_continues, Entered, Stated, AllStated, NoStatement, NoMore, StuckAt, StatedRefusal}
+use Rattle.souper_ir.specs.Items.{Opens, Tail, tail_lines, TailOf, Parted, tail_continues, Entered, Stated, AllStated, NoStatement, NoMore, StuckAt, StatedRefusal}
 
 -- ---- parts in sequence
 
@@ -36,7 +37,7 @@ pub start_ends : (v : PlainStatement) (t : Lexeme) → starts_statement t ≡ tr
 start_ends v t e = statement_ends v t (starts_begins t e)
 
 -- after v come further statements, and then c
-free_over : (s : Scope) (v : PlainStatement) (vs : List PlainStatement) (a c : List Lexeme) → Statements s vs a → Free (λ t. LastGoesOn statement_continues (v ∷ vs) t) c → Free (statement_continues v) (a ++ c)
+free_over : (s : Scope) (v : PlainStatement) (vs : List PlainStatement) (a c : List Lexeme) → statements s vs a → Free (λ t. LastGoesOn statement_continues (v ∷ vs) t) c → Free (statement_continues v) (a ++ c)
 free_over s v [] a c m f = subst (λ (x : List Lexeme). Free (statement_continues v) (x ++ c)) (sym m) f
 free_over s v (w ∷ vs) a c m f =
     let st : Starts starts_statement m.prefix = statement_first s w m.prefix m.first in
@@ -47,7 +48,7 @@ free_over s v (w ∷ vs) a c m f =
     free_start v (t ∷ a) b c st = start_ends v t st
 
 -- the same at the end of the text or before an opening
-stops_over : (faulty : Bool) (s : Scope) (v : PlainStatement) (vs : List PlainStatement) (a c : List Lexeme) → Statements s vs a → Opens c → NextStops (statement_continues v) faulty (a ++ c)
+stops_over : (faulty : Bool) (s : Scope) (v : PlainStatement) (vs : List PlainStatement) (a c : List Lexeme) → statements s vs a → Opens c → NextStops (statement_continues v) faulty (a ++ c)
 stops_over faulty s v [] a c m o = subst (λ (x : List Lexeme). NextStops (statement_continues v) faulty (x ++ c)) (sym m) (opened c o)
   where
     opened : (c : List Lexeme) → Opens c → NextStops (statement_continues v) faulty c
@@ -68,10 +69,10 @@ last_of_push [] v t h = h
 last_of_push (w ∷ []) v t h = h
 last_of_push (w ∷ (x ∷ xs)) v t h = last_of_push (x ∷ xs) v t h
 
-statements_push : (s : Scope) (vs : List PlainStatement) (v : PlainStatement) (a b : List Lexeme) → Statements s vs a → statement_spells (s ++ vs) v b → Statements s (vs ++ v ∷ []) (a ++ b)
-statements_push s [] v a b m sp = joined_last a b m (subst (λ (x : Scope). statement_spells x v b) (append-nil s) sp)
+statements_push : (s : Scope) (vs : List PlainStatement) (v : PlainStatement) (a b : List Lexeme) → statements s vs a → statement (s ++ vs) v b → statements s (vs ++ v ∷ []) (a ++ b)
+statements_push s [] v a b m sp = joined_last a b m (subst (λ (x : Scope). statement x v b) (append-nil s) sp)
 statements_push s (w ∷ ws) v a b m sp =
-    joined_longer b m (statements_push (s ++ w ∷ []) ws v m.suffix b m.second (subst (λ (x : Scope). statement_spells x v b) (sym (append_assoc s (w ∷ []) ws)) sp))
+    joined_longer b m (statements_push (s ++ w ∷ []) ws v m.suffix b m.second (subst (λ (x : Scope). statement x v b) (sym (append_assoc s (w ∷ []) ws)) sp))
 
 -- ---- the loop
 
@@ -88,12 +89,12 @@ none_stated p = record {
 pub goes_on : (vs : List PlainStatement) (v : PlainStatement) (p q r : Parsing) → Stated vs p q → Entered v q r → Stated (vs ++ v ∷ []) p r
 goes_on vs v p q r so took =
     let q_scope : q.scope ≡ p.scope ++ vs = ap (λ (x : Parsing). x.scope) so.state in
-    let here : statement_spells (p.scope ++ vs) v (kinds took.used) = subst (λ (x : Scope). statement_spells x v (kinds took.used)) q_scope took.spelled in
+    let here : statement (p.scope ++ vs) v (kinds took.used) = subst (λ (x : Scope). statement x v (kinds took.used)) q_scope took.spelled in
     let longer : q.scope ++ v ∷ [] ≡ p.scope ++ (vs ++ v ∷ []) = ap (λ (x : Scope). x ++ v ∷ []) q_scope ∙ append_assoc p.scope vs (v ∷ []) in
     record {
       used = so.used ++ took.used;
       parts = so.parts ∙ ap (λ (x : List (ℕ × Lexeme)). so.used ++ x) took.parts ∙ sym (append_assoc so.used took.used r.tokens);
-      spelled = subst (λ (x : List Lexeme). Statements p.scope (vs ++ v ∷ []) x) (sym (kinds-append so.used took.used)) (statements_push p.scope vs v (kinds so.used) (kinds took.used) so.spelled here);
+      spelled = subst (λ (x : List Lexeme). statements p.scope (vs ++ v ∷ []) x) (sym (kinds-append so.used took.used)) (statements_push p.scope vs v (kinds so.used) (kinds took.used) so.spelled here);
       free = Free-weaker (statement_continues v) (λ t. LastGoesOn statement_continues (vs ++ v ∷ []) t) (kinds r.tokens) (last_of_push vs v) took.free;
       state = took.state ∙ ap (λ (x : Parsing). record x { tokens = r.tokens; scope = q.scope ++ v ∷ [] }) so.state
           ∙ ap (λ (x : Scope). record p { tokens = r.tokens; scope = x }) longer;
@@ -115,7 +116,7 @@ statements_end vs p q r so h =
     let here : AllStated vs p q = record { stated = so; quiet = peeked_no starts_statement q.faulty q.tokens seen.2; live = sym (failed_same vs p q so) ∙ h.1 } in
     subst (λ (x : Parsing). AllStated vs p x) (sym seen.0) here
 
-shorter : (s : Scope) (v : PlainStatement) (used before after : List (ℕ × Lexeme)) → before ≡ used ++ after → statement_spells s v (kinds used) → length after < length before
+shorter : (s : Scope) (v : PlainStatement) (used before after : List (ℕ × Lexeme)) → before ≡ used ++ after → statement s v (kinds used) → length after < length before
 shorter s v [] before after e sp = absurd (statement_first s v [] sp)
 shorter s v (t ∷ used) before after e sp = omega (arith, ap length e, length-append used after)
 
@@ -143,10 +144,10 @@ peek_refused vs e p q r so h = record {
   stuck = if_refused (cause_of e) (λ k live. stuck_at NoStatement vs p q so (inl (unread starts_statement q (at_end_of e) k (failed_same vs p q so ∙ live)))) h.0;
 }
 
-pub member_refused : (vs : List PlainStatement) (e : ParseError) (p q m r : Parsing) → Stated vs p q → IsRead (peek_at starts_statement q) true q m → Refusal statement_spells statement_continues e m r → StatedRefusal e p r
+pub member_refused : (vs : List PlainStatement) (e : ParseError) (p q m r : Parsing) → Stated vs p q → IsRead (peek_at starts_statement q) true q m → Refusal statement statement_continues e m r → StatedRefusal e p r
 member_refused vs e p q m r so h bad =
     let seen = peeked starts_statement q m true h.0 in
-    let here : Refusal statement_spells statement_continues e q r = subst (λ (x : Parsing). Refusal statement_spells statement_continues e x r) seen.0 bad in
+    let here : Refusal statement statement_continues e q r = subst (λ (x : Parsing). Refusal statement statement_continues e x r) seen.0 bad in
     record {
       failed = fails_later e p q r (failed_same vs p q so) (len_same vs p q so) here.failed;
       stuck = if_refused (cause_of e) (λ k live. stuck_at NoStatement vs p q so (inr (peeked_yes starts_statement q.faulty q.tokens seen.2, k (failed_same vs p q so ∙ live)))) here.nothing;
@@ -179,8 +180,8 @@ opens_over (t ∷ e) d o = o
 
 module _ {Y : Type 0} (tail : Scope → Y → List Lexeme → Type 0) (continues : Y → Lexeme → Type 0) (opens : (s : Scope) (y : Y) (ts : List Lexeme) → tail s y ts → Opens ts) where
   -- no statements and their tail are spelled if the statements end stuck
-  pub no_item : (faulty : Bool) (s : Scope) (vs ws : List PlainStatement) (a c b e d : List Lexeme) (y : Y) → a ++ c ≡ b ++ (e ++ d) → Statements s vs a → Free (λ t. LastGoesOn statement_continues vs t) c
-      → NoMore tail continues (s ++ vs) faulty c → Statements s ws b → tail (s ++ ws) y e → NextStops (continues y) faulty d → ⊥
+  pub no_item : (faulty : Bool) (s : Scope) (vs ws : List PlainStatement) (a c b e d : List Lexeme) (y : Y) → a ++ c ≡ b ++ (e ++ d) → statements s vs a → Free (λ t. LastGoesOn statement_continues vs t) c
+      → NoMore tail continues (s ++ vs) faulty c → statements s ws b → tail (s ++ ws) y e → NextStops (continues y) faulty d → ⊥
   no_item faulty s [] [] a c b e d y eq m f (inl (inl k)) n sp st =
       no_tokens e d (opens (s ++ []) y e sp) (sym k.0 ∙ ap (λ (x : List Lexeme). x ++ c) (sym m) ∙ eq ∙ ap (λ (x : List Lexeme). x ++ (e ++ d)) n)
   no_item faulty s [] [] a c b e d y eq m f (inl (inr k)) n sp st =
@@ -192,11 +193,11 @@ module _ {Y : Type 0} (tail : Scope → Y → List Lexeme → Type 0) (continues
       no_first faulty s w ws c n.prefix n.suffix e d y ahead k n.first n.second sp
     where
       no_first : (faulty : Bool) (s : Scope) (w : PlainStatement) (ws : List PlainStatement) (c f g e d : List Lexeme) (y : Y) → c ≡ f ++ (g ++ (e ++ d)) → NoMore tail continues (s ++ []) faulty c
-          → statement_spells s w f → Statements (s ++ w ∷ []) ws g → tail (s ++ (w ∷ ws)) y e → ⊥
+          → statement s w f → statements (s ++ w ∷ []) ws g → tail (s ++ (w ∷ ws)) y e → ⊥
       no_first faulty s w ws c f g e d y ahead (inl (inl k)) first more sp =
           starts_clash starts_statement f [] (g ++ (e ++ d)) (statement_first s w f first) (sym k.0 ∙ ahead) tt
       no_first faulty s w ws c f g e d y ahead (inl (inr k)) first more sp =
-          k.1 w f (g ++ (e ++ d)) ahead (subst (λ (x : Scope). statement_spells x w f) (sym (append-nil s)) first)
+          k.1 w f (g ++ (e ++ d)) ahead (subst (λ (x : Scope). statement x w f) (sym (append-nil s)) first)
           (subst (λ (x : List Lexeme). NextStops (statement_continues w) faulty x) (append_assoc g e d) (over (g ++ e) d (stops_over faulty (s ++ w ∷ []) w ws g e more (opens (s ++ (w ∷ ws)) y e sp)) (grown g e (opens (s ++ (w ∷ ws)) y e sp))))
         where
           grown : (g e : List Lexeme) → Opens e → g ++ e ≡ [] → ⊥
@@ -217,7 +218,7 @@ module _ {Y : Type 0} (tail : Scope → Y → List Lexeme → Type 0) (continues
       let free_w : Free (statement_continues w) (n.suffix ++ (e ++ d)) = Free-from_NextStops (statement_continues w) faulty (n.suffix ++ (e ++ d)) (stops_over faulty (s ++ w ∷ []) w ws n.suffix (e ++ d) n.second (opens_over e d o)) in
       let here = statement_alone s v w m.prefix n.prefix (m.suffix ++ c) (n.suffix ++ (e ++ d)) whole m.first n.first (free_over (s ++ v ∷ []) v vs m.suffix c m.second f) free_w in
       let rest : m.suffix ++ c ≡ n.suffix ++ (e ++ d) = append_cancel_left n.prefix (m.suffix ++ c) (n.suffix ++ (e ++ d)) (ap (λ (x : List Lexeme). x ++ (m.suffix ++ c)) (sym here.0) ∙ whole) in
-      let more : Statements (s ++ v ∷ []) ws n.suffix = subst (λ (x : PlainStatement). Statements (s ++ x ∷ []) ws n.suffix) (sym here.1) n.second in
+      let more : statements (s ++ v ∷ []) ws n.suffix = subst (λ (x : PlainStatement). statements (s ++ x ∷ []) ws n.suffix) (sym here.1) n.second in
       let sp2 : tail ((s ++ v ∷ []) ++ ws) y e = subst (λ (x : Scope). tail x y e) (ap (λ (x : PlainStatement). s ++ (x ∷ ws)) (sym here.1) ∙ sym (append_assoc s (v ∷ []) ws)) sp in
       let k2 : NoMore tail continues ((s ++ v ∷ []) ++ vs) faulty c = subst (λ (x : Scope). NoMore tail continues x faulty c) (sym (append_assoc s (v ∷ []) vs)) k in
       no_item faulty (s ++ v ∷ []) vs ws m.suffix c n.suffix e d y rest m.second
@@ -233,7 +234,7 @@ module _ {Y : Type 0} (tail : Scope → Y → List Lexeme → Type 0) (continues
       stuck_at (NoMore tail continues) new p q so.stated (inr (Free-from_NextStops (λ t. starts_statement t ≡ true) q.faulty (kinds q.tokens) so.quiet, none))
 
 -- statements before an opening are alone
-statements_alone : (s : Scope) (vs ws : List PlainStatement) (a b c d : List Lexeme) → a ++ c ≡ b ++ d → Statements s vs a → Statements s ws b → Opens c → Opens d → (a ≡ b) × (vs ≡ ws)
+statements_alone : (s : Scope) (vs ws : List PlainStatement) (a b c d : List Lexeme) → a ++ c ≡ b ++ d → statements s vs a → statements s ws b → Opens c → Opens d → (a ≡ b) × (vs ≡ ws)
 statements_alone s [] [] a b c d e m n o r = (m ∙ sym n, refl)
 statements_alone s [] (w ∷ ws) a b c d e m n o r =
     absurd (clash n.prefix (n.suffix ++ d) c [] (statement_first s w n.prefix n.first) o (sym (split b n.prefix n.suffix d n.whole) ∙ sym e ∙ ap (λ (x : List Lexeme). x ++ c) m ∙ sym (append-nil c)))
@@ -245,74 +246,77 @@ statements_alone s (v ∷ vs) (w ∷ ws) a b c d e m n o r =
     let free_w = Free-from_NextStops (statement_continues w) false (n.suffix ++ d) (stops_over false (s ++ w ∷ []) w ws n.suffix d n.second r) in
     let here = statement_alone s v w m.prefix n.prefix (m.suffix ++ c) (n.suffix ++ d) whole m.first n.first free_v free_w in
     let rest : m.suffix ++ c ≡ n.suffix ++ d = append_cancel_left n.prefix (m.suffix ++ c) (n.suffix ++ d) (ap (λ (x : List Lexeme). x ++ (m.suffix ++ c)) (sym here.0) ∙ whole) in
-    let more : Statements (s ++ v ∷ []) ws n.suffix = subst (λ (x : PlainStatement). Statements (s ++ x ∷ []) ws n.suffix) (sym here.1) n.second in
+    let more : statements (s ++ v ∷ []) ws n.suffix = subst (λ (x : PlainStatement). statements (s ++ x ∷ []) ws n.suffix) (sym here.1) n.second in
     let there = statements_alone (s ++ v ∷ []) vs ws m.suffix n.suffix c d rest m.second more o r in
     (m.whole ∙ ap (λ (x : List Lexeme). x ++ m.suffix) here.0 ∙ ap (λ (x : List Lexeme). n.prefix ++ x) there.0 ∙ sym n.whole, ap (λ (x : PlainStatement). x ∷ vs) here.1 ∙ ap (λ (x : List PlainStatement). w ∷ x) there.1)
 
 -- ---- last lines
 
 -- the words that begin them end the statements
-infer_opens : (s : Scope) (i : PlainInfer) (ts : List Lexeme) → infer_spells s i ts → Opens ts
-infer_opens s i ts h = subst Opens (sym h.whole) (refl, λ v. statement_ends v (ident (codes "infer")) refl)
+infer_opens : (s : Scope) (i : PlainInfer) (ts : List Lexeme) → infer s i ts → Opens ts
+infer_opens s i ts h = rw (h.whole, h.first) (refl, λ v. statement_ends v (ident (codes "infer")) refl)
 
-pub result_opens : (s : Scope) (r : Operand) (ts : List Lexeme) → result_spells s r ts → Opens ts
-result_opens s r ts h = subst Opens (sym h.1) (refl, λ v. statement_ends v (ident (codes "result")) refl)
+pub result_opens : (s : Scope) (r : Operand) (ts : List Lexeme) → result s r ts → Opens ts
+result_opens s r ts h = rw (h.whole, h.first) (refl, λ v. statement_ends v (ident (codes "result")) refl)
 
-cand_opens : (s : Scope) (c : PlainCand) (ts : List Lexeme) → cand_spells s c ts → Opens ts
-cand_opens s c ts h = subst Opens (sym h.whole) (refl, λ v. statement_ends v (ident (codes "cand")) refl)
+cand_opens : (s : Scope) (c : PlainCand) (ts : List Lexeme) → cand s c ts → Opens ts
+cand_opens s c ts h = rw (h.whole, h.first) (refl, λ v. statement_ends v (ident (codes "cand")) refl)
 
-pub tail_opens : (k : ItemType) (s : Scope) (y : Tail) (ts : List Lexeme) → tail_spells k s y ts → Opens ts
-tail_opens left_hand_side s (new, inferred i) ts h = infer_opens s i ts h.1
-tail_opens left_hand_side s y ts h = absurd h
-tail_opens right_hand_side s (new, resulting r) ts h = result_opens s r ts h.1
-tail_opens right_hand_side s y ts h = absurd h
-tail_opens replacement s (new, replaced i r) ts h = subst Opens (sym h.whole) (opens_over h.infer (h.middle ++ h.result) (infer_opens s i h.infer h.infer_spelled))
-tail_opens replacement s (new, candidate c) ts h = cand_opens s c ts h.1
-tail_opens replacement s y ts h = absurd h
+lines_open : (s : Scope) (y : Tail) (ts : List Lexeme) → tail_lines s y ts → Opens ts
+lines_open s (new, inferred i) ts h = infer_opens s i ts h.1
+lines_open s (new, resulting r) ts h = result_opens s r ts h.1
+lines_open s (new, replaced i r) ts h = subst Opens (sym h.whole) (opens_over h.prefix h.suffix (infer_opens s i h.prefix h.first))
+lines_open s (new, candidate c) ts h = cand_opens s c ts h.1
+
+pub tail_opens : (k : ItemType) (s : Scope) (y : Tail) (ts : List Lexeme) → TailOf k s y ts → Opens ts
+tail_opens k s y ts h = lines_open s y ts h.lines
 
 -- neither a statement nor the result line continues an infer line
-pub infer_over : (faulty : Bool) (s t : Scope) (i : PlainInfer) (r : Operand) (new : List PlainStatement) (middle result d : List Lexeme) → Statements s new middle → result_spells t r result → NextStops (infer_continues i) faulty ((middle ++ result) ++ d)
-infer_over faulty s t i r [] middle result d m h =
-    subst (λ (x : List Lexeme). NextStops (infer_continues i) faulty ((x ++ result) ++ d)) (sym m)
-    (subst (λ (x : List Lexeme). NextStops (infer_continues i) faulty (x ++ d)) (sym h.1) (infer_ends i (ident (codes "result")) refl))
-infer_over faulty s t i r (v ∷ new) middle result d m h =
-    subst (λ (x : List Lexeme). NextStops (infer_continues i) faulty ((x ++ result) ++ d)) (sym m.whole) (by_start m.prefix m.suffix (statement_first s v m.prefix m.first))
+pub infer_over : (faulty : Bool) (s t : Scope) (i : PlainInfer) (r : Operand) (new : List PlainStatement) (middle last d : List Lexeme) → statements s new middle → result t r last → NextStops (infer_continues i) faulty ((middle ++ last) ++ d)
+infer_over faulty s t i r [] middle last d m h = rw (m, h.whole, h.first) (infer_ends i (ident (codes "result")) refl)
+infer_over faulty s t i r (v ∷ new) middle last d m h =
+    subst (λ (x : List Lexeme). NextStops (infer_continues i) faulty ((x ++ last) ++ d)) (sym m.whole) (by_start m.prefix m.suffix (statement_first s v m.prefix m.first))
   where
-    by_start : (a b : List Lexeme) → Starts starts_statement a → NextStops (infer_continues i) faulty (((a ++ b) ++ result) ++ d)
+    by_start : (a b : List Lexeme) → Starts starts_statement a → NextStops (infer_continues i) faulty (((a ++ b) ++ last) ++ d)
     by_start [] b st = absurd st
     by_start (t ∷ a) b st = infer_ends i t (starts_begins t st)
 
 -- an infer line and a cand line do not begin alike
-pub cand_is_no_infer : (s : Scope) (c : PlainCand) (a b d : List Lexeme) → cand_spells s c a → Starts (is_word (codes "infer")) b → b ≡ a ++ d → ⊥
+pub cand_is_no_infer : (s : Scope) (c : PlainCand) (a b d : List Lexeme) → cand s c a → Starts (is_word (codes "infer")) b → b ≡ a ++ d → ⊥
 cand_is_no_infer s c a b d h st e =
-    let no : false ≡ true = (subst (λ (x : List Lexeme). Starts (is_word (codes "infer")) x) (e ∙ ap (λ (x : List Lexeme). x ++ d) h.whole) st) in
+    let begins : a ≡ ident (codes "cand") ∷ h.suffix = h.whole ∙ ap (λ (x : List Lexeme). x ++ h.suffix) h.first in
+    let no : false ≡ true = (subst (λ (x : List Lexeme). Starts (is_word (codes "infer")) x) (e ∙ ap (λ (x : List Lexeme). x ++ d) begins) st) in
     absurd cc
 
 pub starts_ahead : (starts : Lexeme → Bool) (a b : List Lexeme) → Starts starts a → Starts starts (a ++ b)
 starts_ahead starts [] b h = absurd h
 starts_ahead starts (t ∷ a) b h = h
 
-pub replaced_begins : (s : Scope) (new : List PlainStatement) (i : PlainInfer) (r : Operand) (ts : List Lexeme) → tail_spells replacement s (new, replaced i r) ts → Starts (is_word (codes "infer")) ts
+pub replaced_begins : (s : Scope) (new : List PlainStatement) (i : PlainInfer) (r : Operand) (ts : List Lexeme) → tail_lines s (new, replaced i r) ts → Starts (is_word (codes "infer")) ts
 replaced_begins s new i r ts h =
-    subst (λ (x : List Lexeme). Starts (is_word (codes "infer")) x) (sym h.whole) (starts_ahead (is_word (codes "infer")) h.infer (h.middle ++ h.result) (infer_first s i h.infer h.infer_spelled))
+    subst (λ (x : List Lexeme). Starts (is_word (codes "infer")) x) (sym h.whole) (starts_ahead (is_word (codes "infer")) h.prefix h.suffix (infer_first s i h.prefix h.first))
 
-replaced_alone : (s : Scope) (new more : List PlainStatement) (i j : PlainInfer) (r q : Operand) (a b c d : List Lexeme) → a ++ c ≡ b ++ d → tail_spells replacement s (new, replaced i r) a → tail_spells replacement s (more, replaced j q) b
+replaced_alone : (s : Scope) (new more : List PlainStatement) (i j : PlainInfer) (r q : Operand) (a b c d : List Lexeme) → a ++ c ≡ b ++ d → tail_lines s (new, replaced i r) a → tail_lines s (more, replaced j q) b
     → Free (result_continues r) c → Free (result_continues q) d → (a ≡ b) × (◌≡◌ {A = Tail} (new, replaced i r) (more, replaced j q))
 replaced_alone s new more i j r q a b c d e m n f g =
-    let whole : m.infer ++ ((m.middle ++ m.result) ++ c) ≡ n.infer ++ ((n.middle ++ n.result) ++ d) = sym (split a m.infer (m.middle ++ m.result) c m.whole) ∙ e ∙ split b n.infer (n.middle ++ n.result) d n.whole in
-    let free_i = Free-from_NextStops (infer_continues i) false ((m.middle ++ m.result) ++ c) (infer_over false s (s ++ new) i r new m.middle m.result c m.middle_spelled m.result_spelled) in
-    let free_j = Free-from_NextStops (infer_continues j) false ((n.middle ++ n.result) ++ d) (infer_over false s (s ++ more) j q more n.middle n.result d n.middle_spelled n.result_spelled) in
-    let root = infer_alone s i j m.infer n.infer ((m.middle ++ m.result) ++ c) ((n.middle ++ n.result) ++ d) whole m.infer_spelled n.infer_spelled free_i free_j in
-    let behind : (m.middle ++ m.result) ++ c ≡ (n.middle ++ n.result) ++ d = append_cancel_left n.infer ((m.middle ++ m.result) ++ c) ((n.middle ++ n.result) ++ d) (ap (λ (x : List Lexeme). x ++ ((m.middle ++ m.result) ++ c)) (sym root.0) ∙ whole) in
-    let regrouped : m.middle ++ (m.result ++ c) ≡ n.middle ++ (n.result ++ d) = sym (append_assoc m.middle m.result c) ∙ behind ∙ append_assoc n.middle n.result d in
-    let stated = statements_alone s new more m.middle n.middle (m.result ++ c) (n.result ++ d) regrouped m.middle_spelled n.middle_spelled (opens_over m.result c (result_opens (s ++ new) r m.result m.result_spelled)) (opens_over n.result d (result_opens (s ++ more) q n.result n.result_spelled)) in
-    let last : m.result ++ c ≡ n.result ++ d = append_cancel_left n.middle (m.result ++ c) (n.result ++ d) (ap (λ (x : List Lexeme). x ++ (m.result ++ c)) (sym stated.0) ∙ regrouped) in
-    let n_result : result_spells (s ++ new) q n.result = subst (λ (x : List PlainStatement). result_spells (s ++ x) q n.result) (sym stated.1) n.result_spelled in
-    let result = result_alone (s ++ new) r q m.result n.result c d last m.result_spelled n_result f g in (
-      m.whole ∙ ap (λ (x : List Lexeme). x ++ (m.middle ++ m.result)) root.0 ∙ ap (λ (x : List Lexeme). n.infer ++ (x ++ m.result)) stated.0 ∙ ap (λ (x : List Lexeme). n.infer ++ (n.middle ++ x)) result.0 ∙ sym n.whole,
-      let first : ◌≡◌ {A = Tail} (new, replaced i r) (more, replaced i r) = ap (λ (x : List PlainStatement). (x, replaced i r)) stated.1 in
-          let second : ◌≡◌ {A = Tail} (more, replaced i r) (more, replaced j r) = ap (λ (x : PlainInfer). (more, replaced x r)) root.1 in
-          let third : ◌≡◌ {A = Tail} (more, replaced j r) (more, replaced j q) = ap (λ (x : Operand). (more, replaced j x)) result.1 in
+    let x = m.second in
+    let y = n.second in
+    let whole : m.prefix ++ (m.suffix ++ c) ≡ n.prefix ++ (n.suffix ++ d) = sym (split a m.prefix m.suffix c m.whole) ∙ e ∙ split b n.prefix n.suffix d n.whole in
+    let over_x = infer_over false s (s ++ new) i r new x.prefix x.suffix c x.first x.second in
+    let over_y = infer_over false s (s ++ more) j q more y.prefix y.suffix d y.first y.second in
+    let free_i = Free-from_NextStops (infer_continues i) false (m.suffix ++ c) (subst (λ (z : List Lexeme). NextStops (infer_continues i) false (z ++ c)) (sym x.whole) over_x) in
+    let free_j = Free-from_NextStops (infer_continues j) false (n.suffix ++ d) (subst (λ (z : List Lexeme). NextStops (infer_continues j) false (z ++ d)) (sym y.whole) over_y) in
+    let root = infer_alone s i j m.prefix n.prefix (m.suffix ++ c) (n.suffix ++ d) whole m.first n.first free_i free_j in
+    let behind : m.suffix ++ c ≡ n.suffix ++ d = append_cancel_left n.prefix (m.suffix ++ c) (n.suffix ++ d) (ap (λ (z : List Lexeme). z ++ (m.suffix ++ c)) (sym root.0) ∙ whole) in
+    let further : x.prefix ++ (x.suffix ++ c) ≡ y.prefix ++ (y.suffix ++ d) = sym (split m.suffix x.prefix x.suffix c x.whole) ∙ behind ∙ split n.suffix y.prefix y.suffix d y.whole in
+    let stated = statements_alone s new more x.prefix y.prefix (x.suffix ++ c) (y.suffix ++ d) further x.first y.first (opens_over x.suffix c (result_opens (s ++ new) r x.suffix x.second)) (opens_over y.suffix d (result_opens (s ++ more) q y.suffix y.second)) in
+    let last : x.suffix ++ c ≡ y.suffix ++ d = append_cancel_left y.prefix (x.suffix ++ c) (y.suffix ++ d) (ap (λ (z : List Lexeme). z ++ (x.suffix ++ c)) (sym stated.0) ∙ further) in
+    let y_result : result (s ++ new) q y.suffix = subst (λ (z : List PlainStatement). result (s ++ z) q y.suffix) (sym stated.1) y.second in
+    let ended = result_alone (s ++ new) r q x.suffix y.suffix c d last x.second y_result f g in (
+      m.whole ∙ ap (λ (z : List Lexeme). z ++ m.suffix) root.0 ∙ ap (λ (z : List Lexeme). n.prefix ++ z) (x.whole ∙ ap (λ (z : List Lexeme). z ++ x.suffix) stated.0 ∙ ap (λ (z : List Lexeme). y.prefix ++ z) ended.0 ∙ sym y.whole) ∙ sym n.whole,
+      let first : ◌≡◌ {A = Tail} (new, replaced i r) (more, replaced i r) = ap (λ (z : List PlainStatement). (z, replaced i r)) stated.1 in
+          let second : ◌≡◌ {A = Tail} (more, replaced i r) (more, replaced j r) = ap (λ (z : PlainInfer). (more, replaced z r)) root.1 in
+          let third : ◌≡◌ {A = Tail} (more, replaced j r) (more, replaced j q) = ap (λ (z : Operand). (more, replaced j z)) ended.1 in
           first ∙ second ∙ third,
     )
 
@@ -323,42 +327,79 @@ same_tail end new more x y none also same =
     let second : ◌≡◌ {A = Tail} (more, end x) (more, end y) = ap (λ (z : _). (more, end z)) same in
     first ∙ second
 
-pub tail_alone : (k : ItemType) → Alone (tail_spells k) tail_continues
-tail_alone left_hand_side s (new, inferred i) (more, inferred j) a b c d e m n f g =
+lines_alone : (s : Scope) (y z : Tail) (a b c d : List Lexeme) → a ++ c ≡ b ++ d → ending_type y.1 ≡ ending_type z.1 → tail_lines s y a → tail_lines s z b → Free (tail_continues y) c → Free (tail_continues z) d → (a ≡ b) × (y ≡ z)
+lines_alone s (new, inferred i) (more, inferred j) a b c d e t m n f g =
     let same = infer_alone s i j a b c d e m.1 n.1 f g in
     (same.0, same_tail inferred new more i j m.0 n.0 same.1)
-tail_alone left_hand_side s (new, inferred i) z a b c d e m n f g = absurd n
-tail_alone left_hand_side s y z a b c d e m n f g = absurd m
-tail_alone right_hand_side s (new, resulting r) (more, resulting q) a b c d e m n f g =
+lines_alone s (new, resulting r) (more, resulting q) a b c d e t m n f g =
     let same = result_alone s r q a b c d e m.1 n.1 f g in
     (same.0, same_tail resulting new more r q m.0 n.0 same.1)
-tail_alone right_hand_side s (new, resulting r) z a b c d e m n f g = absurd n
-tail_alone right_hand_side s y z a b c d e m n f g = absurd m
-tail_alone replacement s (new, candidate o) (more, candidate p) a b c d e m n f g =
+lines_alone s (new, candidate o) (more, candidate p) a b c d e t m n f g =
     let same = cand_alone s o p a b c d e m.1 n.1 f g in
     (same.0, same_tail candidate new more o p m.0 n.0 same.1)
-tail_alone replacement s (new, replaced i r) (more, replaced j q) a b c d e m n f g = replaced_alone s new more i j r q a b c d e m n f g
-tail_alone replacement s (new, replaced i r) (more, candidate o) a b c d e m n f g = absurd (cand_is_no_infer s o b (a ++ c) d n.1 (starts_ahead (is_word (codes "infer")) a c (replaced_begins s new i r a m)) e)
-tail_alone replacement s (new, candidate o) (more, replaced j q) a b c d e m n f g = absurd (cand_is_no_infer s o a (b ++ d) c m.1 (starts_ahead (is_word (codes "infer")) b d (replaced_begins s more j q b n)) (sym e))
-tail_alone replacement s (new, candidate o) z a b c d e m n f g = absurd n
-tail_alone replacement s (new, replaced i r) z a b c d e m n f g = absurd n
-tail_alone replacement s y z a b c d e m n f g = absurd m
+lines_alone s (new, replaced i r) (more, replaced j q) a b c d e t m n f g = replaced_alone s new more i j r q a b c d e m n f g
+lines_alone s (new, replaced i r) (more, candidate o) a b c d e t m n f g = absurd (cand_is_no_infer s o b (a ++ c) d n.1 (starts_ahead (is_word (codes "infer")) a c (replaced_begins s new i r a m)) e)
+lines_alone s (new, candidate o) (more, replaced j q) a b c d e t m n f g = absurd (cand_is_no_infer s o a (b ++ d) c m.1 (starts_ahead (is_word (codes "infer")) b d (replaced_begins s more j q b n)) (sym e))
+lines_alone s _ _ a b c d e t m n f g = absurd cc
+
+pub tail_alone : (k : ItemType) → Alone (TailOf k) tail_continues
+tail_alone k s y z a b c d e m n f g = lines_alone s y z a b c d e (m.type_is ∙ sym n.type_is) m.lines n.lines f g
 
 -- ---- items
+
+-- all statements are before the last line
+ended : (L : Scope → Form) (s : Scope) (first last : List PlainStatement) (ts : List Lexeme) → last ≡ [] → (statements s first · L (s ++ first)) ts → (statements s (first ++ last) · L (s ++ (first ++ last))) ts
+ended L s first last ts e h = rw (e, append-nil) h
+
+-- the lines of an item, from those before and after a cut behind its first statements
+whole_lines : (s : Scope) (first last : List PlainStatement) (e : Ending) (ts : List Lexeme) → (statements s first · tail_lines (s ++ first) (last, e)) ts → lines s (first ++ last) e ts
+whole_lines s first last (inferred i) ts h = ended (λ x. infer x i) s first last ts h.second.0 (both (λ x k. k) (λ x k. k.1) ts h)
+whole_lines s first last (resulting r) ts h = ended (λ x. result x r) s first last ts h.second.0 (both (λ x k. k) (λ x k. k.1) ts h)
+whole_lines s first last (replaced i r) ts h = (first, last, refl, rw (← append_assoc s first last) h)
+whole_lines s first last (candidate c) ts h = ended (λ x. cand x c) s first last ts h.second.0 (both (λ x k. k) (λ x k. k.1) ts h)
+
+-- and the other way round
+cut_lines : (k : ItemType) (s : Scope) (vs : List PlainStatement) (e : Ending) (ts : List Lexeme) → ending_type e ≡ k → lines s vs e ts
+    → (first : List PlainStatement) × (last : List PlainStatement) × (vs ≡ first ++ last) × (statements s first · TailOf k (s ++ first) (last, e)) ts
+cut_lines k s vs (inferred i) ts t h = (vs, [], sym (append-nil vs), both (λ x k. k) (λ x k. record { type_is = t; lines = (refl, k) }) ts h)
+cut_lines k s vs (resulting r) ts t h = (vs, [], sym (append-nil vs), both (λ x k. k) (λ x k. record { type_is = t; lines = (refl, k) }) ts h)
+cut_lines k s vs (replaced i r) ts t h =
+    let same : s ++ vs ≡ (s ++ h.0) ++ h.1 = ap (λ (z : Scope). s ++ z) h.2 ∙ sym (append_assoc s h.0 h.1) in
+    (h.0, h.1, h.2, both (λ x k. k) (λ x k. record { type_is = t; lines = both (λ x k. k) (both (λ x k. k) (λ x k. subst (λ (z : Scope). result z r x) same k)) x k }) ts h.3)
+cut_lines k s vs (candidate c) ts t h = (vs, [], sym (append-nil vs), both (λ x k. k) (λ x k. record { type_is = t; lines = (refl, k) }) ts h)
+
+pub parted_item : (k : ItemType) (s : Scope) (a : Item) (ts : List Lexeme) → item_after k s a ts → Parted k s a ts
+parted_item k s a ts h =
+    let p = cut_lines k s h.1 a.ending ts h.0 h.3 in
+    record { first = p.0; last = p.1; statements_are = h.2 ∙ ap (λ (x : List PlainStatement). s ++ x) p.2; spelled = p.3 }
+
+pub item_parted : (k : ItemType) (s : Scope) (a : Item) (ts : List Lexeme) → Parted k s a ts → item_after k s a ts
+item_parted k s a ts h =
+    let x = h.spelled in (
+      x.second.type_is,
+      h.first ++ h.last,
+      h.statements_are,
+      whole_lines s h.first h.last a.ending ts (both (λ y k. k) (λ y k. k.lines) ts x),
+    )
 
 same_item : (v w : Item) → v.statements ≡ w.statements → v.ending ≡ w.ending → v ≡ w
 same_item v w e f = ap (λ (x : List PlainStatement). record { statements = x; ending = v.ending }) e ∙ ap (λ (x : Ending). record { statements = w.statements; ending = x }) f
 
-pub item_alone : (k : ItemType) → Alone (item_spells_after k) item_continues
-item_alone k s v w a b c d e m n f g =
-    let whole : m.head ++ (m.tail ++ c) ≡ n.head ++ (n.tail ++ d) = sym (split a m.head m.tail c m.whole) ∙ e ∙ split b n.head n.tail d n.whole in
-    let stated = statements_alone s m.first n.first m.head n.head (m.tail ++ c) (n.tail ++ d) whole m.head_spelled n.head_spelled
-    (opens_over m.tail c (tail_opens k (s ++ m.first) (m.last, v.ending) m.tail m.tail_spelled)) (opens_over n.tail d (tail_opens k (s ++ n.first) (n.last, w.ending) n.tail n.tail_spelled)) in
-    let rest : m.tail ++ c ≡ n.tail ++ d = append_cancel_left n.head (m.tail ++ c) (n.tail ++ d) (ap (λ (x : List Lexeme). x ++ (m.tail ++ c)) (sym stated.0) ∙ whole) in
-    let n_tail : tail_spells k (s ++ m.first) (n.last, w.ending) n.tail = subst (λ (x : List PlainStatement). tail_spells k (s ++ x) (n.last, w.ending) n.tail) (sym stated.1) n.tail_spelled in
-    let ended = tail_alone k (s ++ m.first) (m.last, v.ending) (n.last, w.ending) m.tail n.tail c d rest m.tail_spelled n_tail f g in
-    let last : m.last ≡ n.last = ap (λ (y : Tail). y.0) ended.1 in
-    let statements : v.statements ≡ w.statements = m.statements_are ∙ ap (λ (x : List PlainStatement). (s ++ x) ++ m.last) stated.1 ∙ ap (λ (x : List PlainStatement). (s ++ n.first) ++ x) last ∙ sym n.statements_are in (
-      m.whole ∙ ap (λ (x : List Lexeme). x ++ m.tail) stated.0 ∙ ap (λ (x : List Lexeme). n.head ++ x) ended.0 ∙ sym n.whole,
-      same_item v w statements (ap (λ (y : Tail). y.1) ended.1),
+parted_alone : (k : ItemType) (s : Scope) (v w : Item) (a b c d : List Lexeme) → a ++ c ≡ b ++ d → Parted k s v a → Parted k s w b → Free (item_continues v) c → Free (item_continues w) d → (a ≡ b) × (v ≡ w)
+parted_alone k s v w a b c d e m n f g =
+    let x = m.spelled in
+    let y = n.spelled in
+    let whole : x.prefix ++ (x.suffix ++ c) ≡ y.prefix ++ (y.suffix ++ d) = sym (split a x.prefix x.suffix c x.whole) ∙ e ∙ split b y.prefix y.suffix d y.whole in
+    let stated = statements_alone s m.first n.first x.prefix y.prefix (x.suffix ++ c) (y.suffix ++ d) whole x.first y.first
+    (opens_over x.suffix c (tail_opens k (s ++ m.first) (m.last, v.ending) x.suffix x.second)) (opens_over y.suffix d (tail_opens k (s ++ n.first) (n.last, w.ending) y.suffix y.second)) in
+    let rest : x.suffix ++ c ≡ y.suffix ++ d = append_cancel_left y.prefix (x.suffix ++ c) (y.suffix ++ d) (ap (λ (z : List Lexeme). z ++ (x.suffix ++ c)) (sym stated.0) ∙ whole) in
+    let y_tail : TailOf k (s ++ m.first) (n.last, w.ending) y.suffix = subst (λ (z : List PlainStatement). TailOf k (s ++ z) (n.last, w.ending) y.suffix) (sym stated.1) y.second in
+    let ended = tail_alone k (s ++ m.first) (m.last, v.ending) (n.last, w.ending) x.suffix y.suffix c d rest x.second y_tail f g in
+    let last : m.last ≡ n.last = ap (λ (z : Tail). z.0) ended.1 in
+    let all : v.statements ≡ w.statements = m.statements_are ∙ ap (λ (z : List PlainStatement). s ++ (z ++ m.last)) stated.1 ∙ ap (λ (z : List PlainStatement). s ++ (n.first ++ z)) last ∙ sym n.statements_are in (
+      x.whole ∙ ap (λ (z : List Lexeme). z ++ x.suffix) stated.0 ∙ ap (λ (z : List Lexeme). y.prefix ++ z) ended.0 ∙ sym y.whole,
+      same_item v w all (ap (λ (z : Tail). z.1) ended.1),
     )
+
+pub item_alone : (k : ItemType) → Alone (item_after k) item_continues
+item_alone k s v w a b c d e m n f g = parted_alone k s v w a b c d e (parted_item k s v a m) (parted_item k s w b n) f g

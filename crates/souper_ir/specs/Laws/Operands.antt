@@ -7,9 +7,7 @@ use Rattle.souper_graph.specs.declared.ast.operands.Operand.{Operand}
 use Rattle.souper_graph.specs.declared.ast.operands.Operand.TheVariants.{Value, Constant as constant_variant}
 use Rattle.souper_graph.specs.Syntax.Tokens.{Lexeme, val_name, int, comma, colon}
 use Rattle.souper_graph.specs.Syntax.Numbers.{number_of, width_of}
-use Rattle.souper_graph.specs.Syntax.Spelling.{Scope, position_of, constant_spells}
-use Rattle.souper_graph.specs.Syntax.Forms.{◌·◌, token, optional, type, of_type, constant, operand, further, operands}
-use Rattle.souper_graph.proofs.FormsAgree.Operands.{constant_to, constant_from}
+use Rattle.souper_graph.specs.Syntax.Spelling.{Scope, position_of, ◌·◌, token, optional, type, of_type, constant, operand, further, operands}
 use Rattle.souper_ir.specs.Reading.{◌>>=◌}
 use Rattle.souper_ir.specs.Continuation.{optional_type_continues, constant_continues, operand_continues, operands_continue}
 use Rattle.souper_ir.specs.Grammar.{Free, NextStops, Starts}
@@ -18,7 +16,7 @@ use Rattle.souper_ir.specs.Laws.Peeks.{some_is}
 use Rattle.souper_ir.specs.Laws.Steps.{bind_some}
 use Rattle.souper_ir.specs.Laws.Tokens.{is_mark_means}
 use Rattle.souper_ir.specs.Laws.Next.{Shows}
-use Rattle.souper_ir.specs.Laws.Rules.{Rule, Any, Never, reread, regrouped, reformed, mark, int_read, ident_read, name_read, by_name, first, after, last, optional_rule, either_rule, none, more, node}
+use Rattle.souper_ir.specs.Laws.Rules.{Rule, Any, Never, reread, regrouped, reformed, mark, int_read, ident_read, name_read, by_name, first, after, last, optional_rule, either_rule, none, more}
 use Rattle.souper_ir.specs.Laws.FromReadings.{Complete, completes}
 
 -- ---- types
@@ -60,14 +58,17 @@ optional_type_rule = optional_rule optional_type_by (is_mark colon) optional_typ
 
 -- ---- constants
 
-pub constant_form_rule : Rule Any (λ s. constant) constant_continues constant_at
+pub constant_rule : Rule Any (λ s. constant) constant_continues constant_at
 unfolding constant_at
-constant_form_rule =
+constant_rule =
     first (λ c. c.value) (int_read number_of) (λ n.
     last (λ t. record { value = n; ty = t }) (λ t i. (tt, refl)) (λ c i. (c.ty, tt, rw (← i.1) refl)) optional_type_rule)
 
-pub constant_first : (s : Scope) (c : Constant) (ts : List Lexeme) → constant_spells c ts → Starts is_int ts
-constant_first s c ts h = rw h.whole refl
+pub constant_first : (s : Scope) (c : Constant) (ts : List Lexeme) → constant c ts → Starts is_int ts
+constant_first s c ts h = rw (h.whole, h.first.1) refl
+
+pub constant_complete : Complete (λ s. constant) constant_continues constant_at
+constant_complete = completes constant_rule
 
 -- ---- operands
 
@@ -85,7 +86,7 @@ constant_made (constant_variant c) e = (c, tt, refl)
 
 operand_by_rule : (b : Bool) → Rule (λ x. is_value x ≡ b) operand operand_continues (operand_by b)
 operand_by_rule true = reread _ (by_name position_of (λ i p. Ok (Value i, p))) (last Value (λ i o. refl) named_made (name_read position_of))
-operand_by_rule false = last constant_variant (λ c o. refl) constant_made constant_form_rule
+operand_by_rule false = last constant_variant (λ c o. refl) constant_made constant_rule
 
 operand_shows : (s : Scope) (x : Operand) (ts : List Lexeme) → operand s x ts → Shows is_name (is_value x) ts
 operand_shows s (Value i) ts h = rw h.1 refl
@@ -136,11 +137,3 @@ further_rule (suc n) = reread (further_at (suc n)) (λ p. regrouped (accept (as_
 pub operands_rule : (n : ℕ) → Rule (λ xs. length xs ≡ n) operands operands_continue (operands_at n)
 operands_rule zero = none operands operands_continue (λ t h. h) (λ s ts h. h) (λ s ts h. h)
 operands_rule (suc n) = more operands further operands_continue (λ s x xs ts h. h) (λ s x xs ts h. h) further_over later_continues further_free operand_rule n (further_rule n)
-
--- ---- the rule of the spelling of constants
-
-pub constant_rule : Rule Any (λ s. constant_spells) constant_continues constant_at
-constant_rule = node constant_form_rule (λ s. constant_from) (λ s. constant_to)
-
-pub constant_complete : Complete (λ s. constant_spells) constant_continues constant_at
-constant_complete = completes constant_rule

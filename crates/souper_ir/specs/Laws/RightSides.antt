@@ -8,10 +8,8 @@ use Rattle.souper_graph.specs.Instructions.{word_of as instruction_word, operand
 use Rattle.souper_graph.specs.Values.{PlainPhi, PlainRhs, var, block, phi, reserved_inst, reserved_const, instruction}
 use Rattle.souper_graph.specs.Syntax.Tokens.{Lexeme, ident, val_name}
 use Rattle.souper_graph.specs.Syntax.Numbers.{count_of}
-use Rattle.souper_graph.specs.Syntax.Spelling.{Scope, entry_of, instruction_spells}
-use Rattle.souper_graph.specs.Syntax.Forms.{◌·◌, nothing, word, one, block_name, count, further, operands, rhs}
+use Rattle.souper_graph.specs.Syntax.Spelling.{Scope, entry_of, ◌·◌, nothing, word, one, block_name, count, further, operands, rhs}
 use Rattle.souper_graph.specs.Syntax.Optional.{◌>>=◌ as ◌>>?◌}
-use Rattle.souper_graph.proofs.FormsAgree.RightSides.{instruction_to, instruction_from}
 use Rattle.souper_ir.specs.Reading.{◌>>=◌}
 use Rattle.souper_ir.specs.declared.parse.words.Opcode.{Opcode}
 use Rattle.souper_ir.specs.declared.parse.words.RhsWord.{RhsWord}
@@ -23,7 +21,7 @@ use Rattle.souper_ir.specs.NodeReadings.{is_word, is_any, block_after_word_at, b
 use Rattle.souper_ir.specs.Laws.Peeks.{some_is}
 use Rattle.souper_ir.specs.Laws.Words.{opcode_is, opcode_makes, opcode_names}
 use Rattle.souper_ir.specs.Laws.Tokens.{word_is, by_word}
-use Rattle.souper_ir.specs.Laws.Rules.{FormOf, ReadingOf, Rule, Any, Never, of_these, reformed, given, done, int_read, ident_read, keyword, name_read, some, parts, joined_some, after, last, worded, either_rule, with_nothing, without_nothing, node}
+use Rattle.souper_ir.specs.Laws.Rules.{FormOf, ReadingOf, Rule, Any, Never, of_these, reformed, given, done, int_read, ident_read, keyword, name_read, some, parts, joined_some, after, last, worded, either_rule, with_nothing, without_nothing}
 use Rattle.souper_ir.specs.Laws.Operands.{further_rule, operands_rule}
 use Rattle.souper_ir.specs.Laws.FromReadings.{Complete, completes}
 
@@ -127,21 +125,18 @@ instruction_of_rule o w means = reformed
     (λ xs c. given (instruction_by o xs) (λ i h. (i, made_again o xs i (h.0.1, h.1)))
     (λ i e. let k = made_means w o xs i means e in done i ((tt, k.0), k.1) (λ j h. some_is (sym (made_again o xs j (h.0.1, h.1)) ∙ e)))))
 
-instruction_form_rule : Rule Any (λ s i. rhs s (instruction i)) instruction_continues instruction_at
+pub instruction_rule : Rule Any (λ s i. rhs s (instruction i)) instruction_continues instruction_at
 unfolding instruction_at
-instruction_form_rule = worded opcode_of instruction_word opcode (λ i. (opcode_is i).1.0) opcode_word (ident_read opcode_of) instruction_of_rule
+instruction_rule = worded opcode_of instruction_word opcode (λ i. (opcode_is i).1.0) opcode_word (ident_read opcode_of) instruction_of_rule
 
-pub instruction_rule : Rule Any instruction_spells instruction_continues instruction_at
-instruction_rule = node instruction_form_rule instruction_from instruction_to
-
-pub instruction_complete : Complete instruction_spells instruction_continues instruction_at
+pub instruction_complete : Complete (λ s i. rhs s (instruction i)) instruction_continues instruction_at
 instruction_complete = completes instruction_rule
 
 starts_it : (i : Instruction) → starts_instruction (ident (instruction_word i)) ≡ true
 starts_it i = rw ((opcode_is i).1.0) refl
 
-pub instruction_first : (s : Scope) (i : Instruction) (ts : List Lexeme) → instruction_spells s i ts → Starts starts_instruction ts
-instruction_first s i ts h = subst (λ (x : List Lexeme). Starts starts_instruction x) (sym h.1) (starts_it i)
+pub instruction_first : (s : Scope) (i : Instruction) (ts : List Lexeme) → rhs s (instruction i) ts → Starts starts_instruction ts
+instruction_first s i ts h = rw (h.whole, h.first) (starts_it i)
 
 -- the words that start an instruction
 named_by : (w : List ℕ) (o : Option Opcode) → opcode_of w ≡ o → is_some o ≡ true → (i : Instruction) × (ident w ≡ ident (instruction_word i))

@@ -3,8 +3,7 @@ use Rattle.std.proofs.Common.{◌≡◌, ℕ, suc, arith, length, Bool, true, fa
 use Rattle.std.proofs.lemmas.List.{append-nil}
 use Rattle.std.specs.Prelude.{is_some}
 use Rattle.souper_graph.specs.Syntax.Tokens.{Lexeme, ident, val_name, int}
-use Rattle.souper_graph.specs.Syntax.Spelling.{kinds, Scope}
-use Rattle.souper_graph.specs.Syntax.Forms.{Form, ◌·◌, nothing, token, word, one, perhaps, optional}
+use Rattle.souper_graph.specs.Syntax.Spelling.{kinds, Scope, Form, ◌·◌, nothing, token, word, one, perhaps, optional}
 use Rattle.souper_ir.specs.Parsing.{Parsing}
 use Rattle.souper_ir.specs.Reading.{Reads, ◌>>=◌, looked_up}
 use Rattle.souper_ir.specs.Grammar.{Free, NextStops, Starts, peek_at}

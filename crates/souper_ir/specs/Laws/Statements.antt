@@ -12,10 +12,8 @@ use Rattle.souper_graph.specs.Instructions.{operands_of}
 use Rattle.souper_graph.specs.Values.{PlainRhs, var, block, phi, reserved_inst, reserved_const, instruction, PlainAssignment, PlainStatement, assigned, condition, block_condition, PlainInfer, PlainCand}
 use Rattle.souper_graph.specs.Syntax.Tokens.{Lexeme, ident, val_name, comma, colon, equals, open_paren}
 use Rattle.souper_graph.specs.Syntax.Numbers.{count_of}
-use Rattle.souper_graph.specs.Syntax.Spelling.{Scope, position_of, assignment_spells, pc_spells, block_pc_spells, statement_spells, infer_spells, cand_spells, result_spells}
-use Rattle.souper_graph.specs.Syntax.Forms.{Form, ◌·◌, token, word, perhaps, optional, of_type, value, operand, rhs, attribute, root_attribute, new_name, statement}
-use Rattle.souper_graph.proofs.FormsAgree.Parts.{◌⇒◌, both, to_left, to_right}
-use Rattle.souper_graph.proofs.FormsAgree.Statements.{assignment_to, assignment_from, pc_to, pc_from, block_pc_to, block_pc_from, infer_to, infer_from, cand_to, cand_from, result_to, result_from}
+use Rattle.souper_graph.specs.Syntax.Spelling.{Scope, position_of, statement, infer, cand, Form, ◌·◌, token, word, perhaps, optional, of_type, value, operand, rhs, attribute, root_attribute, new_name, result}
+use Rattle.souper_graph.proofs.Forms.Parts.{◌⇒◌, both, to_left, to_right}
 use Rattle.souper_ir.specs.Parsing.{Parsing}
 use Rattle.souper_ir.specs.Reading.{Reads, ◌>>=◌, looked_up}
 use Rattle.souper_ir.specs.Continuation.{optional_type_continues, operand_continues, operands_continue, rhs_continues, attributes_continue, assignment_continues, pc_continues, block_pc_continues, statement_continues, infer_continues, cand_continues, result_continues}
@@ -24,7 +22,7 @@ use Rattle.souper_ir.specs.NodeReadings.{accept, as_name, is_name, is_mark, is_w
 use Rattle.souper_ir.specs.Laws.Unique.{Alone}
 use Rattle.souper_ir.specs.Laws.Peeks.{some_is}
 use Rattle.souper_ir.specs.Laws.Tokens.{is_word_means, word_is}
-use Rattle.souper_ir.specs.Laws.Rules.{ReadingOf, Rule, Any, Never, reread, reformed, given, mark, keyword, int_read, found_at, name_at, name_read, joined, first, after, last, perhaps_rule, node}
+use Rattle.souper_ir.specs.Laws.Rules.{ReadingOf, Rule, Any, Never, reread, reformed, given, mark, keyword, int_read, found_at, name_at, name_read, joined, first, after, last, perhaps_rule}
 use Rattle.souper_ir.specs.Laws.FromReadings.{alone}
 use Rattle.souper_ir.specs.Laws.Operands.{optional_type_stops, optional_type_rule, operand_rule, operand_stops, operand_over}
 use Rattle.souper_ir.specs.Laws.RightSides.{name_first, rhs_rule}
@@ -89,21 +87,18 @@ definition_rule =
 
 -- ---- path conditions
 
-pc_form_rule : Rule Any (λ s p. statement s (condition p)) pc_continues pc_at
+pub pc_rule : Rule Any (λ s p. statement s (condition p)) pc_continues pc_at
 unfolding pc_at
-pc_form_rule =
+pc_rule =
     after (keyword (codes "pc")) (
     joined (λ p. p.x) (λ faulty s p x b rest i h st. rw (← i) (operand_over p.x p.y s faulty b rest h)) operand_rule (λ x.
     last (λ y. record { x = x; y = y }) (λ y o. (tt, refl)) (λ p i. (p.y, tt, rw (← i.1) refl)) operand_rule))
 
-pub pc_rule : Rule Any pc_spells pc_continues pc_at
-pc_rule = node pc_form_rule pc_from pc_to
-
-pub pc_alone : Alone pc_spells pc_continues
+pub pc_alone : Alone (λ s p. statement s (condition p)) pc_continues
 pc_alone = alone pc_rule
 
-pub pc_first : (s : Scope) (v : Pc) (ts : List Lexeme) → pc_spells s v ts → Starts (is_word (codes "pc")) ts
-pc_first s v ts h = rw h.1 (word_is (codes "pc"))
+pub pc_first : (s : Scope) (v : Pc) (ts : List Lexeme) → statement s (condition v) ts → Starts (is_word (codes "pc")) ts
+pc_first s v ts h = rw (h.whole, h.first) (word_is (codes "pc"))
 
 below_if : (b : Bool) (n m : ℕ) → ◌≡◌ {A = Option ℕ} (if b then Some n else None) (Some m) → (b ≡ true) × (n ≡ m)
 below_if true n m e = (refl, some_is e)
@@ -120,9 +115,9 @@ below_is count n h = rw ((Decides-ltb n count).1 h) refl
 made_again : (p : BlockPc) (b n : ℕ) (x : Operand) → p.block ≡ b → p.predecessor ≡ n → p.x ≡ x → p ≡ record { block = b; predecessor = n; x = x; y = p.y }
 made_again p b n x e f g = rw (← e, ← f, ← g) refl
 
-block_pc_form_rule : Rule Any (λ s p. statement s (block_condition p)) block_pc_continues block_pc_at
+pub block_pc_rule : Rule Any (λ s p. statement s (block_condition p)) block_pc_continues block_pc_at
 unfolding block_pc_at
-block_pc_form_rule =
+block_pc_rule =
     after (keyword (codes "blockpc")) (
     name_first (λ p. p.block) (λ p n. p.predecessor < n) (λ b.
     first (λ p. p.predecessor) (int_read (count_of (2 ^ 32))) (λ n.
@@ -134,14 +129,11 @@ block_pc_form_rule =
     (λ p i. (p.y, tt, made_again p b.0 w x i.0.0.1.0 (i.0.1 ∙ m.1) i.1))
     operand_rule)))))
 
-pub block_pc_rule : Rule Any block_pc_spells block_pc_continues block_pc_at
-block_pc_rule = node block_pc_form_rule block_pc_from block_pc_to
-
-pub block_pc_alone : Alone block_pc_spells block_pc_continues
+pub block_pc_alone : Alone (λ s p. statement s (block_condition p)) block_pc_continues
 block_pc_alone = alone block_pc_rule
 
-pub block_pc_first : (s : Scope) (v : BlockPc) (ts : List Lexeme) → block_pc_spells s v ts → Starts (is_word (codes "blockpc")) ts
-block_pc_first s v ts h = rw h.whole (word_is (codes "blockpc"))
+pub block_pc_first : (s : Scope) (v : BlockPc) (ts : List Lexeme) → statement s (block_condition v) ts → Starts (is_word (codes "blockpc")) ts
+block_pc_first s v ts h = rw (h.whole, h.first) (word_is (codes "blockpc"))
 
 -- ---- the infer line up to its attributes
 
@@ -180,11 +172,11 @@ pair_line_rule =
 
 -- ---- the result line
 
-pub result_rule : Rule Any result_spells result_continues result_at
+pub result_rule : Rule Any result result_continues result_at
 unfolding result_at
-result_rule = node (after (keyword (codes "result")) operand_rule) result_from result_to
+result_rule = after (keyword (codes "result")) operand_rule
 
-pub result_alone : Alone result_spells result_continues
+pub result_alone : Alone result result_continues
 result_alone = alone result_rule
 
 -- ---- what continues no line
@@ -286,66 +278,66 @@ apart_pair {A} {B} {C} {R} {X} ts h =
     let l : (A · B · (C · R) · X) ts = both {F = A} {H = A} (λ ts h. h) to_right ts k in
     both {F = A} {H = A} (λ ts h. h) (both {F = B} {H = B} (λ ts h. h) to_right) ts l
 
-pub assignment_parts : (s : Scope) (a : PlainAssignment) (ts : List Lexeme) → assignment_spells s a ts → Split definition definition_continues (Row attribute) s (definition_of a) a.attributes ts
+pub assignment_parts : (s : Scope) (a : PlainAssignment) (ts : List Lexeme) → statement s (assigned a) ts → Split definition definition_continues (Row attribute) s (definition_of a) a.attributes ts
 assignment_parts s a ts h = attributes_split attribute (attribute_first s) definition definition_continues s (definition_of a) a.attributes (no_colon (rhs_continues a.value) (rhs_more a.value)) ts
-    (both (λ ts h. h) (each_members attribute a.attributes) ts (definition_apart ts (assignment_to s a ts h)))
+    (both (λ ts h. h) (each_members attribute a.attributes) ts (definition_apart ts h))
 
-pub parts_assignment : (s : Scope) (a : PlainAssignment) (ts : List Lexeme) → Split definition definition_continues (Row attribute) s (definition_of a) a.attributes ts → assignment_spells s a ts
-parts_assignment s a ts h = assignment_from s a ts (apart_definition ts (both (λ ts h. h) (members_each attribute a.attributes) ts (attributes_joined h)))
+pub parts_assignment : (s : Scope) (a : PlainAssignment) (ts : List Lexeme) → Split definition definition_continues (Row attribute) s (definition_of a) a.attributes ts → statement s (assigned a) ts
+parts_assignment s a ts h = apart_definition ts (both (λ ts h. h) (members_each attribute a.attributes) ts (attributes_joined h))
 
-pub assignment_laws : Laws definition definition_continues attribute definition_of (λ (a : PlainAssignment). a.attributes) assignment_spells assignment_continues
+pub assignment_laws : Laws definition definition_continues attribute definition_of (λ (a : PlainAssignment). a.attributes) (λ s a. statement s (assigned a)) assignment_continues
 assignment_laws =
-    laws definition definition_continues attribute definition_of (λ (a : PlainAssignment). a.attributes) (alone definition_rule) (alone attribute_rule) (attribute_first []) assignment_spells assignment_parts parts_assignment
+    laws definition definition_continues attribute definition_of (λ (a : PlainAssignment). a.attributes) (alone definition_rule) (alone attribute_rule) (attribute_first []) (λ s a. statement s (assigned a)) assignment_parts parts_assignment
     (λ d xs. record { name = d.name; ty = d.ty; value = d.value; attributes = xs }) (λ a. refl)
 
-pub infer_parts : (s : Scope) (i : PlainInfer) (ts : List Lexeme) → infer_spells s i ts → Split root (λ (r : ℕ) t. ⊥) (Row root_attribute) s i.value i.attributes ts
-infer_parts s i ts h = attributes_split root_attribute (root_attribute_first s) root (λ r t. ⊥) s i.value i.attributes (λ x. x) ts (both (λ ts h. h) (each_members root_attribute i.attributes) ts (to_left ts (infer_to s i ts h)))
+pub infer_parts : (s : Scope) (i : PlainInfer) (ts : List Lexeme) → infer s i ts → Split root (λ (r : ℕ) t. ⊥) (Row root_attribute) s i.value i.attributes ts
+infer_parts s i ts h = attributes_split root_attribute (root_attribute_first s) root (λ r t. ⊥) s i.value i.attributes (λ x. x) ts (both (λ ts h. h) (each_members root_attribute i.attributes) ts (to_left ts h))
 
-pub parts_infer : (s : Scope) (i : PlainInfer) (ts : List Lexeme) → Split root (λ (r : ℕ) t. ⊥) (Row root_attribute) s i.value i.attributes ts → infer_spells s i ts
-parts_infer s i ts h = infer_from s i ts (to_right ts (both (λ ts h. h) (members_each root_attribute i.attributes) ts (attributes_joined h)))
+pub parts_infer : (s : Scope) (i : PlainInfer) (ts : List Lexeme) → Split root (λ (r : ℕ) t. ⊥) (Row root_attribute) s i.value i.attributes ts → infer s i ts
+parts_infer s i ts h = to_right ts (both (λ ts h. h) (members_each root_attribute i.attributes) ts (attributes_joined h))
 
-pub infer_laws : Laws root (λ (r : ℕ) t. ⊥) root_attribute (λ (i : PlainInfer). i.value) (λ (i : PlainInfer). i.attributes) infer_spells infer_continues
+pub infer_laws : Laws root (λ (r : ℕ) t. ⊥) root_attribute (λ (i : PlainInfer). i.value) (λ (i : PlainInfer). i.attributes) infer infer_continues
 infer_laws =
-    laws root (λ (r : ℕ) t. ⊥) root_attribute (λ (i : PlainInfer). i.value) (λ (i : PlainInfer). i.attributes) (alone root_rule) (alone root_attribute_rule) (root_attribute_first []) infer_spells infer_parts parts_infer
+    laws root (λ (r : ℕ) t. ⊥) root_attribute (λ (i : PlainInfer). i.value) (λ (i : PlainInfer). i.attributes) (alone root_rule) (alone root_attribute_rule) (root_attribute_first []) infer infer_parts parts_infer
     (λ r xs. record { value = r; attributes = xs }) (λ i. refl)
 
 -- the two operands of a cand line
 abbrev pub pair_of : PlainCand → Operand × Operand
 pair_of c = (c.lhs, c.rhs)
 
-pub cand_parts : (s : Scope) (c : PlainCand) (ts : List Lexeme) → cand_spells s c ts → Split pair_line pair_line_continues (Row root_attribute) s (pair_of c) c.attributes ts
+pub cand_parts : (s : Scope) (c : PlainCand) (ts : List Lexeme) → cand s c ts → Split pair_line pair_line_continues (Row root_attribute) s (pair_of c) c.attributes ts
 cand_parts s c ts h = attributes_split root_attribute (root_attribute_first s) pair_line pair_line_continues s (pair_of c) c.attributes (no_colon (operand_continues c.rhs) (operand_more c.rhs)) ts
-    (both (λ ts h. h) (each_members root_attribute c.attributes) ts (pair_apart ts (cand_to s c ts h)))
+    (both (λ ts h. h) (each_members root_attribute c.attributes) ts (pair_apart ts h))
 
-pub parts_cand : (s : Scope) (c : PlainCand) (ts : List Lexeme) → Split pair_line pair_line_continues (Row root_attribute) s (pair_of c) c.attributes ts → cand_spells s c ts
-parts_cand s c ts h = cand_from s c ts (apart_pair ts (both (λ ts h. h) (members_each root_attribute c.attributes) ts (attributes_joined h)))
+pub parts_cand : (s : Scope) (c : PlainCand) (ts : List Lexeme) → Split pair_line pair_line_continues (Row root_attribute) s (pair_of c) c.attributes ts → cand s c ts
+parts_cand s c ts h = apart_pair ts (both (λ ts h. h) (members_each root_attribute c.attributes) ts (attributes_joined h))
 
-pub cand_laws : Laws pair_line pair_line_continues root_attribute pair_of (λ (c : PlainCand). c.attributes) cand_spells cand_continues
+pub cand_laws : Laws pair_line pair_line_continues root_attribute pair_of (λ (c : PlainCand). c.attributes) cand cand_continues
 cand_laws =
-    laws pair_line pair_line_continues root_attribute pair_of (λ (c : PlainCand). c.attributes) (alone pair_line_rule) (alone root_attribute_rule) (root_attribute_first []) cand_spells cand_parts parts_cand
+    laws pair_line pair_line_continues root_attribute pair_of (λ (c : PlainCand). c.attributes) (alone pair_line_rule) (alone root_attribute_rule) (root_attribute_first []) cand cand_parts parts_cand
     (λ o xs. record { lhs = o.0; rhs = o.1; attributes = xs }) (λ c. refl)
 
-pub assignment_alone : Alone assignment_spells assignment_continues
+pub assignment_alone : Alone (λ s a. statement s (assigned a)) assignment_continues
 assignment_alone = assignment_laws.alone
 
-pub infer_alone : Alone infer_spells infer_continues
+pub infer_alone : Alone infer infer_continues
 infer_alone = infer_laws.alone
 
-pub cand_alone : Alone cand_spells cand_continues
+pub cand_alone : Alone cand cand_continues
 cand_alone = cand_laws.alone
 
 -- ---- first tokens
 
-pub assignment_first : (s : Scope) (a : PlainAssignment) (ts : List Lexeme) → assignment_spells s a ts → Starts is_name ts
-assignment_first s a ts h = rw h.whole refl
+pub assignment_first : (s : Scope) (a : PlainAssignment) (ts : List Lexeme) → statement s (assigned a) ts → Starts is_name ts
+assignment_first s a ts h = rw (h.whole, h.first.0) refl
 
-pub infer_first : (s : Scope) (i : PlainInfer) (ts : List Lexeme) → infer_spells s i ts → Starts (is_word (codes "infer")) ts
-infer_first s i ts h = rw h.whole (word_is (codes "infer"))
+pub infer_first : (s : Scope) (i : PlainInfer) (ts : List Lexeme) → infer s i ts → Starts (is_word (codes "infer")) ts
+infer_first s i ts h = rw (h.whole, h.first) (word_is (codes "infer"))
 
-pub statement_first : (s : Scope) (v : PlainStatement) (ts : List Lexeme) → statement_spells s v ts → Starts starts_statement ts
-statement_first s (assigned a) ts h = rw h.whole refl
-statement_first s (condition p) ts h = rw h.1 refl
-statement_first s (block_condition p) ts h = rw h.whole refl
+pub statement_first : (s : Scope) (v : PlainStatement) (ts : List Lexeme) → statement s v ts → Starts starts_statement ts
+statement_first s (assigned a) ts h = rw (h.whole, h.first.0) refl
+statement_first s (condition p) ts h = rw (h.whole, h.first) refl
+statement_first s (block_condition p) ts h = rw (h.whole, h.first) refl
 
 -- ---- statements
 
@@ -366,7 +358,7 @@ two_starts P Q (t ∷ a) (u ∷ b) c d apart m n e =
     let same : t ≡ u = cc in
     apart t m (subst (λ (z : Lexeme). Q z ≡ true) (sym same) n)
 
-pub statement_alone : Alone statement_spells statement_continues
+pub statement_alone : Alone statement statement_continues
 statement_alone s (assigned v) (assigned w) a b c d e m n f g = let k = assignment_alone s v w a b c d e m n f g in (k.0, ap assigned k.1)
 statement_alone s (condition v) (condition w) a b c d e m n f g = let k = pc_alone s v w a b c d e m n f g in (k.0, ap condition k.1)
 statement_alone s (block_condition v) (block_condition w) a b c d e m n f g = let k = block_pc_alone s v w a b c d e m n f g in (k.0, ap block_condition k.1)

@@ -2,7 +2,7 @@
 ghost use Rattle.std.specs.Prelude.{◌≡◌, None, option_map, refl};
 ghost use Rattle.souper_graph.specs.Values.{PlainAttribute, PlainRootAttribute};
 ghost use Rattle.souper_graph.specs.View.{view_attribute, view_root_attribute};
-ghost use Rattle.souper_graph.specs.Syntax.Forms.{attribute as attribute_form, root_attribute as root_attribute_form};
+ghost use Rattle.souper_graph.specs.Syntax.Spelling.{attribute as attribute_form, root_attribute as root_attribute_form};
 ghost use Rattle.souper_graph.specs.Syntax.Tokens.{open_paren};
 ghost use Rattle.souper_graph.specs.Syntax.Numbers.{bits_of};
 ghost use Rattle.souper_errors.specs.Errors.{widened};

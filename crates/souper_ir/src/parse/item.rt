@@ -8,7 +8,7 @@ ghost use Rattle.souper_graph.specs.Unneeded.{EachClosed};
 ghost use Rattle.souper_graph.specs.Values.{Item as PlainItem};
 ghost use Rattle.souper_graph.specs.Syntax.Tokens.{Lexeme, IsTextOf, IsLastGap, IsLexeme};
 ghost use Rattle.souper_graph.specs.Syntax.TokenLaws.{AreTokensOf};
-ghost use Rattle.souper_graph.specs.Syntax.Spelling.{kinds, ItemType, left_hand_side, right_hand_side, replacement, statement_spells, item_spells_after, TextSpells};
+ghost use Rattle.souper_graph.specs.Syntax.Spelling.{kinds, left_hand_side, right_hand_side, replacement, item_after, TextSpells, statement};
 ghost use Rattle.souper_lexer.specs.TokenView.{IsCut};
 ghost use Rattle.souper_errors.specs.Errors.{error_of, widened, kind_of, at_end_of};
 ghost use Rattle.souper_ir.specs.Continuation.{statement_continues, item_continues};
@@ -69,7 +69,7 @@ fn next_kind(parser: &mut Parser<'_>) -> Read<Next>
 fn enter_pc(parser: &mut Parser<'_>) -> Read<()>
     requires { NextIs Next.Pc parser.old }
     ensures ok { OnOk result (Enters parser.old parser.new) }
-    ensures err { IfErr result (λ e. Refusal statement_spells statement_continues (error_of e) parser.old parser.new) }
+    ensures err { IfErr result (λ e. Refusal statement statement_continues (error_of e) parser.old parser.new) }
     ensures stops { IfErr result (λ e. Stops StatementStops (error_of e) parser.old) }
 {
     let condition = pc(parser)?;
@@ -81,7 +81,7 @@ fn enter_pc(parser: &mut Parser<'_>) -> Read<()>
 fn enter_block_pc(parser: &mut Parser<'_>) -> Read<()>
     requires { NextIs Next.BlockPc parser.old }
     ensures ok { OnOk result (Enters parser.old parser.new) }
-    ensures err { IfErr result (λ e. Refusal statement_spells statement_continues (error_of e) parser.old parser.new) }
+    ensures err { IfErr result (λ e. Refusal statement statement_continues (error_of e) parser.old parser.new) }
     ensures stops { IfErr result (λ e. Stops StatementStops (error_of e) parser.old) }
 {
     let condition = block_pc(parser)?;
@@ -93,7 +93,7 @@ fn enter_block_pc(parser: &mut Parser<'_>) -> Read<()>
 fn enter_assignment(parser: &mut Parser<'_>) -> Read<()>
     requires { NextIs Next.Assignment parser.old }
     ensures ok { OnOk result (Enters parser.old parser.new) }
-    ensures err { IfErr result (λ e. Refusal statement_spells statement_continues (error_of e) parser.old parser.new) }
+    ensures err { IfErr result (λ e. Refusal statement statement_continues (error_of e) parser.old parser.new) }
     ensures stops { IfErr result (λ e. Stops StatementStops (error_of e) parser.old) }
 {
     let (name, slot, ty) = entered_heading(parser)?;
@@ -142,8 +142,8 @@ fn emptied(statements: &mut Arena<Statement>) -> Arena<Statement> {
 pub trait WholeItem: Item + Sized {
     /// Takes the tokens of an item. The scope is empty after it.
     fn item(parser: &mut Parser<'_>) -> Result<Self>
-        ensures ok { IfOk result (λ v. Took (item_spells_after Self.item_type) item_continues (λ s. []) (Self.view v) parser.old parser.new) }
-        ensures err { IfErr result (λ e. Refusal (item_spells_after Self.item_type) item_continues e parser.old parser.new) }
+        ensures ok { IfOk result (λ v. Took (item_after Self.item_type) item_continues (λ s. []) (Self.view v) parser.old parser.new) }
+        ensures err { IfErr result (λ e. Refusal (item_after Self.item_type) item_continues e parser.old parser.new) }
         ensures stops { IfErr result (λ e. Stops (ItemStops Self.item_type) e parser.old) };
 
     /// Takes the statements out of an item that is to be dropped, if its type allows it. No clause says what is left.
@@ -213,7 +213,7 @@ impl Parse for LeftHandSide {
 
     ghost view = { view_left_hand_side };
 
-    ghost spells = { item_spells_after left_hand_side };
+    ghost spells = { item_after left_hand_side };
 
     ghost continues = { item_continues };
 
@@ -232,7 +232,7 @@ impl Parse for RightHandSide {
 
     ghost view = { view_right_hand_side };
 
-    ghost spells = { item_spells_after right_hand_side };
+    ghost spells = { item_after right_hand_side };
 
     ghost continues = { item_continues };
 
@@ -252,7 +252,7 @@ impl Parse for Replacement {
 
     ghost view = { view_replacement };
 
-    ghost spells = { item_spells_after replacement };
+    ghost spells = { item_after replacement };
 
     ghost continues = { item_continues };
 
@@ -269,8 +269,8 @@ impl Parse for Replacement {
 #[inline(always)]
 fn next_item<T: WholeItem>(parser: &mut Parser<'_>, dropped: Option<Arena<Statement>>) -> Result<T>
     requires { parser.old.scope ≡ [] }
-    ensures ok { IfOk result (λ v. Took (item_spells_after T.item_type) item_continues (λ s. []) (T.view v) parser.old parser.new) }
-    ensures err { IfErr result (λ e. Refusal (item_spells_after T.item_type) item_continues e parser.old parser.new) }
+    ensures ok { IfOk result (λ v. Took (item_after T.item_type) item_continues (λ s. []) (T.view v) parser.old parser.new) }
+    ensures err { IfErr result (λ e. Refusal (item_after T.item_type) item_continues e parser.old parser.new) }
     ensures stops { IfErr result (λ e. Stops (ItemStops T.item_type) e parser.old) }
 {
     parser.reuse(dropped);

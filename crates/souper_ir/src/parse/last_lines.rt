@@ -3,8 +3,7 @@
 ghost use Rattle.std.specs.Prelude.{codes, map, refl, IfOk, IfErr};
 ghost use Rattle.souper_graph.specs.Values.{PlainInfer, PlainCand};
 ghost use Rattle.souper_graph.specs.View.{view_infer, view_cand, view_root_attribute};
-ghost use Rattle.souper_graph.specs.Syntax.Spelling.{infer_spells, cand_spells};
-ghost use Rattle.souper_graph.specs.Syntax.Forms.{root_attribute as root_attribute_form};
+ghost use Rattle.souper_graph.specs.Syntax.Spelling.{root_attribute as root_attribute_form, infer, cand};
 ghost use Rattle.souper_errors.specs.Errors.{error_of, widened};
 ghost use Rattle.souper_ir.specs.Continuation.{infer_continues, cand_continues};
 ghost use Rattle.souper_ir.specs.Reading.{Gives};
@@ -54,8 +53,8 @@ fn root_attributes(parser: &mut Parser<'_>) -> Read<Vec<RootAttribute>>
 }
 
 pub(crate) fn infer(parser: &mut Parser<'_>) -> Result<Infer>
-    ensures ok { IfOk result (λ i. Took infer_spells infer_continues (λ s. s) (view_infer i) parser.old parser.new) }
-    ensures err { IfErr result (λ e. Refusal infer_spells infer_continues e parser.old parser.new) }
+    ensures ok { IfOk result (λ i. Took infer infer_continues (λ s. s) (view_infer i) parser.old parser.new) }
+    ensures err { IfErr result (λ e. Refusal infer infer_continues e parser.old parser.new) }
     ensures stops { IfErr result (λ e. Stops InferStops e parser.old) }
 {
     let value = root(parser)?;
@@ -86,8 +85,8 @@ fn pair(parser: &mut Parser<'_>) -> Read<(Operand, Operand)>
 }
 
 pub(crate) fn cand(parser: &mut Parser<'_>) -> Result<Cand>
-    ensures ok { IfOk result (λ c. Took cand_spells cand_continues (λ s. s) (view_cand c) parser.old parser.new) }
-    ensures err { IfErr result (λ e. Refusal cand_spells cand_continues e parser.old parser.new) }
+    ensures ok { IfOk result (λ c. Took cand cand_continues (λ s. s) (view_cand c) parser.old parser.new) }
+    ensures err { IfErr result (λ e. Refusal cand cand_continues e parser.old parser.new) }
     ensures stops { IfErr result (λ e. Stops CandStops e parser.old) }
 {
     let (lhs, rhs) = pair(parser)?;
@@ -113,7 +112,7 @@ impl Parse for Infer {
 
     ghost view = { view_infer };
 
-    ghost spells = { infer_spells };
+    ghost spells = { infer };
 
     ghost continues = { infer_continues };
 
@@ -142,7 +141,7 @@ impl Parse for Cand {
 
     ghost view = { view_cand };
 
-    ghost spells = { cand_spells };
+    ghost spells = { cand };
 
     ghost continues = { cand_continues };
 

@@ -3,8 +3,7 @@
 ghost use Rattle.std.specs.Prelude.{◌≡◌, None, false, refl};
 ghost use Rattle.souper_errors.specs.Errors.{widened};
 ghost use Rattle.souper_ir.specs.Reading.{Gives};
-ghost use Rattle.souper_graph.specs.Syntax.Spelling.{constant_spells};
-ghost use Rattle.souper_graph.specs.Syntax.Forms.{type as type_form, operand as operand_form};
+ghost use Rattle.souper_graph.specs.Syntax.Spelling.{type as type_form, operand as operand_form, constant as constant_form};
 ghost use Rattle.souper_ir.specs.Continuation.{constant_continues, operand_continues};
 ghost use Rattle.souper_ir.specs.NodeReadings.{is_int, type_at, optional_type_at, constant_at, named_operand_at, operand_by, operand_at, next_operand_at, further_at};
 ghost use Rattle.souper_ir.specs.Laws.FromReadings.{one_alone};
@@ -148,11 +147,11 @@ impl Parse for Constant {
 
     ghost view = { λ c. c };
 
-    ghost spells = { λ s. constant_spells };
+    ghost spells = { λ s. constant_form };
 
     ghost continues = { constant_continues };
 
-    ghost alone = { one_alone (λ s. constant_spells) constant_continues constant_at constant_complete };
+    ghost alone = { one_alone (λ s. constant_form) constant_continues constant_at constant_complete };
 
     fn parse<'a>(parser: &mut Parser<'a>) -> Result<Self> {
         widen(constant(parser))

@@ -1,13 +1,12 @@
 //! Right sides: blocks, phis and instructions.
 
 ghost use Rattle.std.specs.Prelude.{◌≡◌, None, codes, refl};
-ghost use Rattle.souper_graph.specs.Values.{PlainPhi, PlainRhs, block as block_value, phi as phi_value};
+ghost use Rattle.souper_graph.specs.Values.{PlainPhi, PlainRhs, block as block_value, phi as phi_value, instruction};
 ghost use Rattle.souper_graph.specs.View.{view_phi, view_rhs};
 ghost use Rattle.souper_errors.specs.Errors.{widened};
 ghost use Rattle.souper_ir.specs.Reading.{Gives};
 ghost use Rattle.souper_ir.specs.Grammar.{peek_at};
-ghost use Rattle.souper_graph.specs.Syntax.Spelling.{instruction_spells};
-ghost use Rattle.souper_graph.specs.Syntax.Forms.{rhs as rhs_form};
+ghost use Rattle.souper_graph.specs.Syntax.Spelling.{rhs as rhs_form};
 ghost use Rattle.souper_ir.specs.Continuation.{phi_continues, instruction_continues, rhs_continues};
 ghost use Rattle.souper_ir.specs.NodeReadings.{accept, ident_by, is_word, starts_instruction, block_after_word_at, block_node_at, block_name_at, phi_after_word_at, phi_at, instruction_at, instruction_of_at, rhs_word_at, rhs_at};
 ghost use Rattle.souper_ir.specs.Words.{opcode_of};
@@ -217,11 +216,11 @@ impl Parse for Instruction {
 
     ghost view = { λ i. i };
 
-    ghost spells = { instruction_spells };
+    ghost spells = { λ s i. rhs_form s (instruction i) };
 
     ghost continues = { instruction_continues };
 
-    ghost alone = { one_alone instruction_spells instruction_continues instruction_at instruction_complete };
+    ghost alone = { one_alone (λ s i. rhs_form s (instruction i)) instruction_continues instruction_at instruction_complete };
 
     fn parse<'a>(parser: &mut Parser<'a>) -> Result<Self> {
         widen(instruction(parser))

@@ -3,10 +3,9 @@
 ghost use Rattle.std.specs.Prelude.{◌≡◌, codes, map, refl, IfOk, IfErr};
 ghost use Rattle.souper_graph.specs.declared.ast.statements.Pc.{Pc as pc_value};
 ghost use Rattle.souper_graph.specs.declared.ast.statements.BlockPc.{BlockPc as block_pc_value};
-ghost use Rattle.souper_graph.specs.Values.{PlainAssignment, PlainStatement};
+ghost use Rattle.souper_graph.specs.Values.{PlainAssignment, PlainStatement, assigned, condition, block_condition};
 ghost use Rattle.souper_graph.specs.View.{view_assignment, view_attribute, view_statement};
-ghost use Rattle.souper_graph.specs.Syntax.Spelling.{assignment_spells, pc_spells, block_pc_spells, statement_spells};
-ghost use Rattle.souper_graph.specs.Syntax.Forms.{attribute as attribute_form};
+ghost use Rattle.souper_graph.specs.Syntax.Spelling.{attribute as attribute_form, statement};
 ghost use Rattle.souper_errors.specs.Errors.{error_of, widened};
 ghost use Rattle.souper_ir.specs.Continuation.{assignment_continues, pc_continues, block_pc_continues, statement_continues};
 ghost use Rattle.souper_ir.specs.Reading.{Gives};
@@ -95,8 +94,8 @@ pub(crate) fn attributes(parser: &mut Parser<'_>) -> Read<Vec<Attribute>>
 
 /// An assignment, which is not entered into the scope.
 fn assignment(parser: &mut Parser<'_>) -> Read<Assignment>
-    ensures ok { IfOk result (λ a. Took assignment_spells assignment_continues (λ s. s) (view_assignment a) parser.old parser.new) }
-    ensures err { IfErr result (λ e. Refusal assignment_spells assignment_continues (error_of e) parser.old parser.new) }
+    ensures ok { IfOk result (λ a. Took (λ s a. statement s (assigned a)) assignment_continues (λ s. s) (view_assignment a) parser.old parser.new) }
+    ensures err { IfErr result (λ e. Refusal (λ s a. statement s (assigned a)) assignment_continues (error_of e) parser.old parser.new) }
 {
     let (name, ty) = heading(parser)?;
     let value = rhs(parser)?;
@@ -148,7 +147,7 @@ impl Parse for Assignment {
 
     ghost view = { view_assignment };
 
-    ghost spells = { assignment_spells };
+    ghost spells = { λ s a. statement s (assigned a) };
 
     ghost continues = { assignment_continues };
 
@@ -177,7 +176,7 @@ impl Parse for Pc {
 
     ghost view = { λ p. p };
 
-    ghost spells = { pc_spells };
+    ghost spells = { λ s p. statement s (condition p) };
 
     ghost continues = { pc_continues };
 
@@ -207,7 +206,7 @@ impl Parse for BlockPc {
 
     ghost view = { λ p. p };
 
-    ghost spells = { block_pc_spells };
+    ghost spells = { λ s p. statement s (block_condition p) };
 
     ghost continues = { block_pc_continues };
 
@@ -236,7 +235,7 @@ impl Parse for Statement {
 
     ghost view = { view_statement };
 
-    ghost spells = { statement_spells };
+    ghost spells = { statement };
 
     ghost continues = { statement_continues };
 

@@ -1,4 +1,4 @@
-use Rattle.std.proofs.Common.{rules, ◌≡◌, sym, ◌∙◌}
+use Rattle.std.proofs.Common.{refl, rules, ◌≡◌, sym, ◌∙◌}
 use Rattle.std.specs.String.{string_bytes}
 use Rattle.souper_graph.specs.View.{view_left_hand_side}
 use Rattle.souper_graph.specs.Text.{text_of}
@@ -16,7 +16,7 @@ returns c =
     let second : string_bytes c.in_ok-second.second ≡ text_of y = c.in_ok-second.ensures.printed.canonical (below y (c.in_ok-renamed-2.ensures.named.well_formed c.requires.second)) in
     let left : c.as_str.result.now ≡ text_of x = c.as_str.ensures.value ∙ first in
     let right : c.as_str-2.result.now ≡ text_of y = c.as_str-2.ensures.value ∙ second in
-    let law = c.law_of_canonical_texts.ensures.renamed left_hand_side a b x y (c.requires.first, tt) (c.requires.second, tt) c.in_ok-renamed.ensures.named c.in_ok-renamed-2.ensures.named in (
+    let law = c.law_of_canonical_texts.ensures.renamed left_hand_side a b x y (c.requires.first, refl) (c.requires.second, refl) c.in_ok-renamed.ensures.named c.in_ok-renamed-2.ensures.named in (
       (λ t. law.0 (sym left ∙ c.agree.ensures.0 t ∙ right)),
       (λ s. c.agree.ensures.1 (left ∙ law.1 s ∙ sym right)),
     )

@@ -1,3 +1,4 @@
+use Rattle.std.proofs.Common.{refl}
 use Rattle.souper_graph.proofs.RoundTrip.ReadBack.{texts-read-back, text-again, renumbered-closed, renumbered-needed, same-graph-text, unneeded-text}
 use Rattle.souper_graph.specs.Endings.{replacement_ending}
 use Rattle.souper_graph.proofs.RoundTrip.Conditions.{condition-lines, rearranged-text}
@@ -12,5 +13,5 @@ returns c = record {
   same_graph = same-graph-text;
   unneeded = unneeded-text;
   rearranged = rearranged-text;
-  types = ((λ l. tt), (λ r. tt), replacement_ending);
+  types = ((λ l. refl), (λ r. refl), replacement_ending);
 }

@@ -1,4 +1,4 @@
-use Rattle.std.proofs.Common.{◌≡◌, List, Bor, map, length, min, sym, ap, ◌∙◌, subst}
+use Rattle.std.proofs.Common.{refl, ◌≡◌, List, Bor, map, length, min, sym, ap, ◌∙◌, subst}
 use Rattle.std.specs.Prelude.{IfOk}
 use Rattle.souper_graph.specs.Values.{Item}
 use Rattle.souper_graph.specs.View.{view_left_hand_side, view_replacement}
@@ -14,7 +14,7 @@ returns-clause-found c = λ wq rq is entries h.
     let xs = c.deref.result.now in
     let n : c.min.result ≡ min c.args.limit (length xs) = c.min.ensures ∙ ap (min c.args.limit) (c.len.ensures ∙ sym c.deref.ensures.len) in
     let found : map (λ (s : Bor Stored). view_stored s.now) xs ≡ answers q entries = ap (map (λ (s : Bor Stored). view_stored s.now)) c.deref.ensures.value ∙ c.in_ok-stored.ensures q is entries h in
-    let all = answered q entries xs wq rq tt h.indexed.each found in
+    let all = answered q entries xs wq rq refl h.indexed.each found in
     subst (λ (z : List Item). IfOk c.instances.result (λ f. AreInstances q z (map view_replacement f.items))) (first-replacements q entries xs c.args.limit c.min.result n found)
     (c.instances.ensures.found wq (all-taken (λ (s : Bor Stored). IsAnswer q (view_replacement s.now.replacement)) c.min.result xs all))
 
@@ -23,5 +23,5 @@ returns-clause-memory c = λ wq rq is entries h.
     let q = view_left_hand_side c.args.query.now in
     let xs = c.deref.result.now in
     let found : map (λ (s : Bor Stored). view_stored s.now) xs ≡ answers q entries = ap (map (λ (s : Bor Stored). view_stored s.now)) c.deref.ensures.value ∙ c.in_ok-stored.ensures q is entries h in
-    let all = answered q entries xs wq rq tt h.indexed.each found in
+    let all = answered q entries xs wq rq refl h.indexed.each found in
     c.instances.ensures.memory wq (all-taken (λ (s : Bor Stored). IsAnswer q (view_replacement s.now.replacement)) c.min.result xs all)

@@ -40,7 +40,7 @@ pub define-requires-clause-fresh : goal.define-requires-clause-fresh
 define-requires-clause-fresh c =
     let a : PlainAssignment = record { name = c.in_ok-name.name.now; ty = c.in_ok-name.ty; value = view_rhs c.in-Ok.value; attributes = map view_attribute c.in_ok-attributes-in-Ok.attributes.items } in
     let t = parts_taken a c.args.parser.now c.entered_heading.new.parser c.rhs.new.parser c.attributes.new.parser c.in_ok-name.ensures.heading c.in-Ok.ensures c.in_ok-attributes-in-Ok.ensures.ok in
-    subst (λ (p : Parsing). position_of p.scope c.in_ok-name.name.now ≡ None) (sym t.state ∙ sym c.in-Ok-copy_name.ensures.kept) t.spelled.name_is_new
+    subst (λ (p : Parsing). position_of p.scope c.in_ok-name.name.now ≡ None) (sym t.state ∙ sym c.in-Ok-copy_name.ensures.kept) t.spelled.first.1
 
 pub returns-in-Ok-copy_name-clause-ok : goal.returns-in-Ok-copy_name-clause-ok
 returns-in-Ok-copy_name-clause-ok c =

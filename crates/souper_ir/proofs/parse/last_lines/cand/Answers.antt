@@ -5,7 +5,7 @@ use Rattle.souper_graph.specs.View.{view_root_attribute}
 use Rattle.souper_ir.specs.Laws.FromReadings.{is_taken, is_refused}
 use Rattle.souper_ir.specs.Laws.Statements.{pair_line_rule, cand_laws}
 use Rattle.souper_errors.specs.Errors.{error_of}
-use Rattle.souper_graph.specs.Syntax.Forms.{root_attribute as root_attribute_form}
+use Rattle.souper_graph.specs.Syntax.Spelling.{root_attribute as root_attribute_form}
 use Rattle.souper_ir.specs.NodeReadings.{pair_at, root_attribute_at}
 use Rattle.souper_ir.proofs.Items.Stopping.{node_stops, behind_stops}
 use Rattle.souper_ir.proofs.parse.last_lines.cand.Goals as goal

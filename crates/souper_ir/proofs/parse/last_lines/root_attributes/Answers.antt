@@ -4,7 +4,7 @@ use Rattle.souper_graph.specs.View.{view_root_attribute}
 use Rattle.souper_errors.specs.Errors.{error_of}
 use Rattle.souper_ir.specs.Laws.Attributes.{root_attribute_rule, root_attribute_first}
 use Rattle.souper_ir.specs.Laws.FromReadings.{alone, is_taken, is_refused}
-use Rattle.souper_graph.specs.Syntax.Forms.{root_attribute as root_attribute_form}
+use Rattle.souper_graph.specs.Syntax.Spelling.{root_attribute as root_attribute_form}
 use Rattle.souper_ir.specs.NodeReadings.{root_attribute_at}
 use Rattle.souper_ir.proofs.Items.Stopping.{root_attributes_look, member_stops}
 use Rattle.souper_ir.proofs.Nodes.Lists.{peek_refused, member_refused, one_more, behind_peek, shorter, ends}

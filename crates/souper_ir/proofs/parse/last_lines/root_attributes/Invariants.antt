@@ -1,6 +1,6 @@
 use Rattle.std.proofs.Common.{length, map}
 use Rattle.souper_graph.specs.View.{view_root_attribute}
-use Rattle.souper_graph.specs.Syntax.Forms.{root_attribute as root_attribute_form}
+use Rattle.souper_graph.specs.Syntax.Spelling.{root_attribute as root_attribute_form}
 use Rattle.souper_ir.proofs.Nodes.Lists.{SoFar}
 use Rattle.souper_ir.proofs.parse.last_lines.root_attributes.Given as goal
 

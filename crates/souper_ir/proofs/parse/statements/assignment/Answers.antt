@@ -3,11 +3,8 @@ use Rattle.std.proofs.lemmas.Result.{err_from_is_err_and}
 use Rattle.std.specs.Prelude.{map}
 use Rattle.souper_graph.specs.Values.{PlainAssignment}
 use Rattle.souper_graph.specs.View.{view_rhs, view_attribute}
-use Rattle.souper_graph.specs.Syntax.Spelling.{assignment_spells}
-use Rattle.souper_ir.specs.Continuation.{assignment_continues}
 use Rattle.souper_errors.specs.Errors.{error_of}
-use Rattle.souper_ir.specs.Grammar.{Took}
-use Rattle.souper_ir.proofs.Nodes.Statements.{heading_refused, value_refused, attributes_refused, parts_taken}
+use Rattle.souper_ir.proofs.Nodes.Statements.{TakesAssignment, heading_refused, value_refused, attributes_refused, parts_taken}
 use Rattle.souper_ir.proofs.parse.statements.assignment.Goals as goal
 
 pub returns-in_err-name-clause-err : goal.returns-in_err-name-clause-err
@@ -30,5 +27,5 @@ pub returns-in-Ok-clause-ok : goal.returns-in-Ok-clause-ok
 returns-in-Ok-clause-ok c =
     let a : PlainAssignment = record { name = c.in_ok-name.name.now; ty = c.in_ok-name.ty; value = view_rhs c.in_ok-value.value; attributes = map view_attribute c.in_ok-attributes.attributes.items } in
     let whole = parts_taken a c.args.parser.now c.heading.new.parser c.rhs.new.parser c.attributes.new.parser c.in_ok-name.ensures c.in_ok-value.ensures c.in_ok-attributes.ensures.ok in
-    subst (λ (n : List ℕ). Took assignment_spells assignment_continues (λ s. s) (record { name = n; ty = c.in_ok-name.ty; value = view_rhs c.in_ok-value.value; attributes = map view_attribute c.in_ok-attributes.attributes.items }) c.args.parser.now c.attributes.new.parser)
+    subst (λ (n : List ℕ). TakesAssignment (record { name = n; ty = c.in_ok-name.ty; value = view_rhs c.in_ok-value.value; attributes = map view_attribute c.in_ok-attributes.attributes.items }) c.args.parser.now c.attributes.new.parser)
     (sym c.in-Ok.ensures.ok) whole

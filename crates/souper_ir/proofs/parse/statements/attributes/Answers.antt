@@ -6,7 +6,7 @@ use Rattle.souper_errors.specs.Errors.{error_of}
 use Rattle.souper_ir.specs.Laws.Attributes.{attribute_rule, attribute_first}
 use Rattle.souper_ir.specs.Laws.FromReadings.{alone, is_taken, is_refused}
 use Rattle.souper_ir.proofs.Nodes.Ahead.{no_attributes}
-use Rattle.souper_graph.specs.Syntax.Forms.{attribute as attribute_form}
+use Rattle.souper_graph.specs.Syntax.Spelling.{attribute as attribute_form}
 use Rattle.souper_ir.specs.NodeReadings.{attribute_at}
 use Rattle.souper_ir.proofs.Items.Stopping.{attributes_look, member_stops}
 use Rattle.souper_ir.proofs.Nodes.Lists.{peek_refused, member_refused, one_more, behind_peek, shorter, ends}

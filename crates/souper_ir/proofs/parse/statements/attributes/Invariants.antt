@@ -1,6 +1,6 @@
 use Rattle.std.proofs.Common.{length, map}
 use Rattle.souper_graph.specs.View.{view_attribute}
-use Rattle.souper_graph.specs.Syntax.Forms.{attribute as attribute_form}
+use Rattle.souper_graph.specs.Syntax.Spelling.{attribute as attribute_form}
 use Rattle.souper_ir.proofs.Nodes.Lists.{SoFar}
 use Rattle.souper_ir.proofs.parse.statements.attributes.Given as goal
 

@@ -1,7 +1,7 @@
 -- Lemmas. What has a form, by what forms are made of.
 use Rattle.std.proofs.Common.{◌≡◌, ℕ, List, [], ◌∷◌, ◌++◌, Option, Some, refl, sym, ◌∙◌, ap, subst, append_assoc}
-use Rattle.souper_graph.specs.Syntax.Tokens.{Lexeme}
-use Rattle.souper_graph.specs.Syntax.Forms.{Form, ◌·◌, token, one, each}
+use Rattle.souper_graph.specs.Syntax.Tokens.{Lexeme, val_name, close_paren}
+use Rattle.souper_graph.specs.Syntax.Spelling.{Form, ◌·◌, token, one, Scope, entry_of, block_name}
 
 infix 10 ◌⇒◌
 -- what has the form F has the form G
@@ -35,10 +35,6 @@ to_right ts h =
       second = record { prefix = k.suffix; suffix = h.suffix; whole = refl; first = k.second; second = h.second };
     }
 
-pub each_both : {A : Type 0} {F G : A → Form} → ((x : A) → F x ⇒ G x) → (xs : List A) → each F xs ⇒ each G xs
-each_both f [] ts h = h
-each_both f (x ∷ xs) ts h = both (f x) (each_both f xs) ts h
-
 -- ---- a token, and then a form
 
 pub next : {F : Form} (t : Lexeme) (rest : List Lexeme) → F rest → (token t · F) (t ∷ rest)
@@ -47,9 +43,11 @@ next t rest h = record { prefix = t ∷ []; suffix = rest; whole = refl; first =
 pub next_one : {A : Type 0} {F : Form} (kind : List ℕ → Lexeme) (read : List ℕ → Option A) (v : A) (w : List ℕ) (rest : List Lexeme) → read w ≡ Some v → F rest → (one kind read v · F) (kind w ∷ rest)
 next_one kind read v w rest e h = record { prefix = kind w ∷ []; suffix = rest; whole = refl; first = (w, refl, e); second = h }
 
--- what follows from the form, if it does where the token and the rest are known
-pub by_token : {F : Form} (G : Form) (t : Lexeme) → ((rest : List Lexeme) → F rest → G (t ∷ rest)) → token t · F ⇒ G
-by_token G t f ts h = subst G (sym (h.whole ∙ ap (λ (x : List Lexeme). x ++ h.suffix) h.first)) (f h.suffix h.second)
+-- ---- the name of a block, and then a form
 
-pub by_one : {A : Type 0} {F : Form} (G : Form) (kind : List ℕ → Lexeme) (read : List ℕ → Option A) (v : A) → ((w : List ℕ) → read w ≡ Some v → (rest : List Lexeme) → F rest → G (kind w ∷ rest)) → one kind read v · F ⇒ G
-by_one G kind read v f ts h = subst G (sym (h.whole ∙ ap (λ (x : List Lexeme). x ++ h.suffix) h.first.1)) (f h.first.0 h.first.2 h.suffix h.second)
+pub next_block : {F : Form} (s : Scope) (i : ℕ) (Is : ℕ → Type 0) (name : List ℕ) (n : ℕ) (rest : List Lexeme) → entry_of s name ≡ Some (i, Some n) → Is n → F rest → (block_name s i Is · F) (val_name name ∷ rest)
+next_block s i Is name n rest e is h = record { prefix = val_name name ∷ []; suffix = rest; whole = refl; first = (n, is, (name, refl, e)); second = h }
+
+-- the parenthesis after the body
+pub closed : {F : Form} (body : List Lexeme) → F body → (F · token close_paren) (body ++ close_paren ∷ [])
+closed body h = record { prefix = body; suffix = close_paren ∷ []; whole = refl; first = h; second = refl }
