@@ -5,7 +5,7 @@ use Rattle.souper_graph.specs.declared.ast.flaws.Flaw.{Flaw}
 use Rattle.souper_graph.specs.declared.ast.flaws.FlawLocation.{FlawLocation}
 use Rattle.souper_graph.specs.declared.ast.flaws.FlawLocation.TheVariants.{Statement, Infer, Result, Cand}
 use Rattle.souper_graph.specs.declared.ast.flaws.FlawReason.{FlawReason}
-use Rattle.souper_graph.specs.declared.ast.flaws.FlawReason.TheVariants.{NotABlock, ValueCount, PredecessorOutOfRange}
+use Rattle.souper_graph.specs.declared.ast.flaws.FlawReason.TheVariants.{UseBeforeDefinition, NotAnAssignment, NotABlock, ValueCount, PredecessorOutOfRange}
 use Rattle.souper_graph.specs.Values.{PlainStatement, Ending, Item}
 use Rattle.souper_graph.specs.Uses.{Has, Needed, NeededIn}
 use Rattle.souper_graph.specs.Judging.{AllStand}
@@ -27,6 +27,10 @@ pub record AreNeeded (a : Item) (ids : List ℕ) : Type 0 where
   pub inside : (i : ℕ) → Has ids i → i < length a.statements
   pub exact : (i : ℕ) → i < length a.statements → Has ids i ↔ NeededIn a i
   pub ascending : (k i : ℕ) → k < length ids → Has (take k ids) i ↔ (Has ids i × (i < get_or ids k 0))
+
+-- the reasons that concern the uses of a statement, but for what its block is
+abbrev pub use_reasons : List FlawReason
+use_reasons = UseBeforeDefinition ∷ NotAnAssignment ∷ []
 
 -- the reasons that concern the block of a statement
 abbrev pub block_reasons : List FlawReason

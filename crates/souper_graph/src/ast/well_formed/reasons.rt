@@ -16,9 +16,7 @@ use crate::ast::well_formed::fitting::{
     attributes_fit, is_name, operand_fits, operands_fit, optional_type_fits, rhs_fits,
     root_attributes_fit,
 };
-use crate::ast::well_formed::uses::{
-    operands_are_assigned, predecessors_of, uses_are_earlier, values_are_assigned,
-};
+use crate::ast::well_formed::uses::{operands_are_assigned, predecessors_of, use_reason};
 
 fn name_is_valid(statement: &Statement) -> bool
     ensures { IsTrue result ↔ HasValidName (view_statement statement.now) }
@@ -101,13 +99,10 @@ fn reason_alone(
     if !widths_are_valid(statement) {
         return Some(FlawReason::ZeroWidth);
     }
-    if !uses_are_earlier(statement, position) {
-        return Some(FlawReason::UseBeforeDefinition);
+    match use_reason(statements, statement, position) {
+        Some(reason) => Some(reason),
+        None => block_reason(statements, statement),
     }
-    if !values_are_assigned(statements, statement) {
-        return Some(FlawReason::NotAnAssignment);
-    }
-    block_reason(statements, statement)
 }
 
 // The first reason of the statement at the position, whatever names other statements have; `None` if there is no

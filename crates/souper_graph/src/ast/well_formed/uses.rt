@@ -3,28 +3,17 @@
 ghost use Rattle.std.specs.Prelude.{◌≡◌, ◌↔◌, map, slice_get, IsTrue, MatchOption};
 ghost use Rattle.std.specs.List.{AllByRecursion};
 ghost use Rattle.souper_graph.specs.View.{view_statement};
-ghost use Rattle.souper_graph.specs.Uses.{uses_of_operand, uses_of_operands, uses_of};
+ghost use Rattle.souper_graph.specs.Uses.{uses_of_operand, uses_of_operands};
 ghost use Rattle.souper_graph.specs.WellFormed.{predecessors_at, IsAssigned, IsBlock, IsMet};
-ghost use Rattle.souper_graph.specs.Flaws.{IsEarlier, IsValueMet};
+ghost use Rattle.souper_graph.specs.Flaws.{MeetsAlone, IsFirstFailing};
+ghost use Rattle.souper_graph.specs.FlawSearch.{use_reasons};
 
 use crate::ast::arenas::Arena;
+use crate::ast::flaws::FlawReason;
 use crate::ast::ids::{BlockId, ValueId};
 use crate::ast::operands::Operand;
 use crate::ast::statements::Statement;
 use crate::ast::uses::Use;
-
-// Whether each use of the statement is of a position below the limit.
-pub(crate) fn uses_are_earlier(statement: &Statement, limit: usize) -> bool
-    ensures { IsTrue result
-        ↔ AllByRecursion (IsEarlier limit) (uses_of (view_statement statement.now)) }
-{
-    for used in statement.uses() {
-        if used.position().index() >= limit {
-            return false;
-        }
-    }
-    true
-}
 
 #[tactic(auto, using(crate::proofs::Lookups::assigned_at))]
 fn value_is_assigned(statements: &Arena<Statement>, value: ValueId) -> bool
@@ -56,19 +45,33 @@ pub(crate) fn operands_are_assigned(statements: &Arena<Statement>, operands: &[O
     true
 }
 
-// Whether each operand of the statement is a constant or names an assignment.
-pub(crate) fn values_are_assigned(statements: &Arena<Statement>, statement: &Statement) -> bool
-    ensures { IsTrue result
-        ↔ AllByRecursion (IsValueMet (map view_statement statements.now)) (uses_of (view_statement statement.now)) }
+// The first reason that concerns the uses of a statement at the position: that one is of no lower position, or that a value
+// is no assignment.
+pub(crate) fn use_reason(
+    statements: &Arena<Statement>,
+    statement: &Statement,
+    position: usize,
+) -> Option<FlawReason>
+    ensures { MatchOption result
+        (AllByRecursion (MeetsAlone (map view_statement statements.now) position (view_statement statement.now)) use_reasons)
+        (λ reason. IsFirstFailing (MeetsAlone (map view_statement statements.now) position (view_statement statement.now)) use_reasons reason) }
 {
+    let mut are_assigned = true;
     for used in statement.uses() {
-        if let Use::Value(value) = used {
-            if !value_is_assigned(statements, value) {
-                return false;
+        if used.position().index() >= position {
+            return Some(FlawReason::UseBeforeDefinition);
+        }
+        if let Use::Value(value) = &used {
+            if !value_is_assigned(statements, *value) {
+                are_assigned = false;
             }
         }
     }
-    true
+    if are_assigned {
+        None
+    } else {
+        Some(FlawReason::NotAnAssignment)
+    }
 }
 
 // The block's number of predecessors, or `None` if the position has no block.
