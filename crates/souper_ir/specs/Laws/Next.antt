@@ -73,10 +73,6 @@ sees starts p ts at h = answered starts p true at.live (answers_yes starts p.fau
 pub sees_none : (starts : Lexeme → Bool) (p : Parsing) (ts : List Lexeme) → At p ts → NextStops (λ t. starts t ≡ true) p.faulty ts → peek_at starts p ≡ Ok (false, p)
 sees_none starts p ts at h = answered starts p false at.live (answers_no starts p.faulty p.tokens (subst (NextStops (λ t. starts t ≡ true) p.faulty) (sym at.kinds_are) h))
 
-pub seen_none : (starts : Lexeme → Bool) (faulty : Bool) (ts : List (ℕ × Lexeme)) → Answers starts false faulty ts → Free (λ t. starts t ≡ true) (kinds ts)
-seen_none starts faulty [] h = tt
-seen_none starts faulty (t ∷ ts) h = λ y. let e : true ≡ false = sym y ∙ h in absurd cc
-
 -- the first token is a start, or it is none
 abbrev pub Shows : (Lexeme → Bool) → Bool → List Lexeme → Type 0
 Shows starts b [] = ⊥

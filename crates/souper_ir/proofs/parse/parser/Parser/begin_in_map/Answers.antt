@@ -27,24 +27,14 @@ returns-then-is_some c =
 pub returns-in-Ok-None : goal.returns-in-Ok-None
 returns-in-Ok-None c =
     let live = live_inside c.self.inside.failed (subst (λ (p : Parsing). p.failed ≡ None) (sym c.self.view_is) c.requires) in
-    let new = is_new c.self.inside.names (map view_statement c.self.inside.statements) c.args.name.now None (c.self.invariant.names live) (sym (sym c.in-Ok-None.field-0-is ∙ c.in-Ok-None.ensures.replaced)) refl in (
-      subst (λ (q : Parsing). new_name_at c.args.name.now c.args.self.now ≡ Ok (tt, q)) (sym c.self.view_is)
-          (begun c.args.name.now c.args.self.now (subst (λ (p : Parsing). position_of p.scope c.args.name.now ≡ None) c.self.view_is new)),
-      c.requires,
-      subst (λ (p : Parsing). p.failed ≡ None) (sym c.self.view_is) c.requires,
-      ap (λ (p : Parsing). p.len) c.self.view_is,
-    )
+    let new = is_new c.self.inside.names (map view_statement c.self.inside.statements) c.args.name.now None (c.self.invariant.names live) (sym (sym c.in-Ok-None.field-0-is ∙ c.in-Ok-None.ensures.replaced)) refl in
+    begun c.args.name.now _ c.args.self.now c.self.view_is c.requires new
 
 pub returns-else-is_some : goal.returns-else-is_some
 returns-else-is_some c =
     let live = live_inside c.self.inside.failed (subst (λ (p : Parsing). p.failed ≡ None) (sym c.self.view_is) c.requires) in
-    let new = is_new c.self.inside.names (map view_statement c.self.inside.statements) c.args.name.now c.in-Ok.replaced (c.self.invariant.names live) (sym c.in-Ok.ensures.replaced) (sym (c.if-is_some.ensures ∙ ap (λ (o : Option NameEntry). is_some o) c.in_scope.ensures)) in (
-      subst (λ (q : Parsing). new_name_at c.args.name.now c.args.self.now ≡ Ok (tt, q)) (sym c.self.view_is)
-          (begun c.args.name.now c.args.self.now (subst (λ (p : Parsing). position_of p.scope c.args.name.now ≡ None) c.self.view_is new)),
-      c.requires,
-      subst (λ (p : Parsing). p.failed ≡ None) (sym c.self.view_is) c.requires,
-      ap (λ (p : Parsing). p.len) c.self.view_is,
-    )
+    let new = is_new c.self.inside.names (map view_statement c.self.inside.statements) c.args.name.now c.in-Ok.replaced (c.self.invariant.names live) (sym c.in-Ok.ensures.replaced) (sym (c.if-is_some.ensures ∙ ap (λ (o : Option NameEntry). is_some o) c.in_scope.ensures)) in
+    begun c.args.name.now _ c.args.self.now c.self.view_is c.requires new
 
 pub invariant_of-self : goal.invariant_of-self
 invariant_of-self c = record {
