@@ -1,6 +1,7 @@
 -- Facts about a parser whose next token comes, though it was not lexed.
-use Rattle.std.proofs.Common.{◌≡◌, ◌⊎◌, ℕ, Bool, true, false, List, [], ◌∷◌, None, Ok, refl, sym, ◌∙◌, ap, subst, inl, inr}
+use Rattle.std.proofs.Common.{◌≡◌, ℕ, Bool, true, false, List, [], ◌∷◌, None, Ok, refl, sym, ◌∙◌, ap, subst}
 use Rattle.std.specs.Prelude.{Result}
+use Rattle.std.proofs.Math.Logic.{⊎_elim}
 use Rattle.souper_graph.specs.declared.ast.operands.Operand.{Operand}
 use Rattle.souper_errors.specs.declared.error.ParseError.{ParseError}
 use Rattle.souper_graph.specs.Values.{PlainAttribute}
@@ -63,11 +64,7 @@ IsName t = (n : List ℕ) × (t ≡ val_name n)
 
 no_paren : (faulty : Bool) (ts : List (ℕ × Lexeme)) → Answers (is_mark open_paren) false faulty ts → Free (OneMore {X = PlainAttribute} []) (kinds ts)
 no_paren faulty [] h = tt
-no_paren faulty (t ∷ ts) h = refuted
-  where
-    refuted : (is_mark open_paren t.1 ≡ true) ⊎ ⊥ → ⊥
-    refuted (inl e) = let clash : true ≡ false = sym e ∙ h in cc
-    refuted (inr x) = x
+no_paren faulty (t ∷ ts) h = ⊎_elim (λ (e : is_mark open_paren t.1 ≡ true). let clash : true ≡ false = sym e ∙ h in absurd cc) (λ x. x)
 
 pub no_attributes : (xs : List PlainAttribute) (p : Parsing) → xs ≡ [] → Comes IsName p → Took (Row attribute_form) OneMore (λ s. s) xs p p
 no_attributes xs p none c =

@@ -1,5 +1,5 @@
 -- The numbers and widths that words spell are within their limits.
-use Rattle.std.proofs.Common.{◌≡◌, ℕ, ◌^◌, ◌<◌, ◌==◌, Bool, true, false, ◌&&◌, ℤ, pos, negsuc, List, [], ◌∷◌, Some, subst}
+use Rattle.std.proofs.Common.{◌≡◌, ℕ, ◌^◌, ◌<◌, ◌==◌, Bool, ◌&&◌, ℤ, pos, negsuc, List, [], ◌∷◌, Some, subst}
 use Rattle.std.specs.Prelude.{nat_lt, FitsSigned}
 use Rattle.std.specs.Int.{w128}
 use Rattle.std.specs.Str.Parse.{digits_value, signed_digits_value, without_leading_sign}

@@ -1,5 +1,5 @@
 -- Facts about the next token, by the statement that it begins.
-use Rattle.std.proofs.Common.{◌≡◌, Bool, true, false, Option, Some, None, Ok, Err, refl, ◌∙◌, ap, subst}
+use Rattle.std.proofs.Common.{◌≡◌, Bool, true, false, Option, Some, Ok, Err, refl, ◌∙◌, ap, subst}
 use Rattle.std.specs.Prelude.{codes, if◌then◌else◌}
 use Rattle.souper_graph.specs.Syntax.Tokens.{Lexeme, ident}
 use Rattle.souper_ir.specs.declared.parse.item.Next.{Next}

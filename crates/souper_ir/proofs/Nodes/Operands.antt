@@ -1,5 +1,5 @@
 -- Operands that a loop reads in sequence.
-use Rattle.std.proofs.Common.{◌≡◌, ◌≢◌, ℕ, ◌+◌, ◌<◌, zero, suc, List, [], ◌∷◌, ◌++◌, Some, Bool, Result, Ok, Err, refl, sym, ◌∙◌, ap, subst, arith, add-one, ◌-◌}
+use Rattle.std.proofs.Common.{◌≡◌, ◌≢◌, ℕ, ◌+◌, ◌<◌, zero, suc, List, [], ◌∷◌, ◌++◌, Some, Bool, Ok, Err, refl, sym, ◌∙◌, ap, subst, arith, add-one, ◌-◌}
 use Rattle.souper_graph.specs.declared.ast.instructions.Instruction.{Instruction}
 use Rattle.souper_graph.specs.declared.ast.operands.Operand.{Operand}
 use Rattle.souper_graph.specs.Syntax.Tokens.{comma}

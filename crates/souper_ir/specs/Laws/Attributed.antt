@@ -1,6 +1,7 @@
 -- Lemmas. A node with attributes after it: which tokens are its two parts, and what parsing one and then the other
 -- returns.
-use Rattle.std.proofs.Common.{◌≡◌, List, [], ◌∷◌, ◌++◌, sym, ◌∙◌, ap, subst, ◌⊎◌, inl, inr}
+use Rattle.std.proofs.Common.{◌≡◌, List, [], ◌∷◌, ◌++◌, sym, ◌∙◌, ap, subst, inl, inr}
+use Rattle.std.proofs.Math.Logic.{⊎_elim}
 use Rattle.souper_errors.specs.declared.error.ParseError.{ParseError}
 use Rattle.souper_ir.specs.Parsing.{Parsing}
 use Rattle.souper_graph.specs.Syntax.Tokens.{Lexeme, open_paren}
@@ -20,10 +21,6 @@ Row {X} spells s xs ts = Members spells (λ (x : X) t. ⊥) xs ts
 
 abbrev pub OneMore : {X : Type 0} → List X → Lexeme → Type 0
 OneMore {X} xs t = ListGoesOn (λ (x : X) t. ⊥) (is_mark open_paren) xs t
-
-neither : {A B : Type 0} → ¬ A → ¬ B → A ⊎ B → ⊥
-neither f g (inl a) = f a
-neither f g (inr b) = g b
 
 last_open : {X : Type 0} (before : Type 0) (xs : List X) (t : Lexeme) → OneMore xs t → attributes_continue before xs t
 last_open {X = X} before [] t h = inl (goes_on_by_paren {V = X} [] t h)
@@ -45,7 +42,7 @@ module _ {X : Type 0} (spells : X → List Lexeme → Type 0) (first : (x : X) (
 
   attributes_only : (P : Lexeme → Type 0) (xs : List X) (y rest : List Lexeme) → Members spells (λ x t. ⊥) xs y → Free P (y ++ rest) → Free (OneMore xs) rest → Free (λ t. attributes_continue (P t) xs t) rest
   attributes_only P xs y [] m f g = tt
-  attributes_only P [] y (t ∷ rest) m f g = neither (λ e. g (more_if_open {V = X} [] t e)) (subst (λ (z : List Lexeme). Free P (z ++ t ∷ rest)) m f)
+  attributes_only P [] y (t ∷ rest) m f g = ⊎_elim (λ e. g (more_if_open {V = X} [] t e)) (subst (λ (z : List Lexeme). Free P (z ++ t ∷ rest)) m f)
   attributes_only P (x ∷ xs) y (t ∷ rest) m f g = λ e. g (more_if_open (x ∷ xs) t e)
 
 -- the laws of a node C that is a node A with attributes X after it

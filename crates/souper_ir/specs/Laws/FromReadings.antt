@@ -8,11 +8,10 @@ use Rattle.souper_ir.specs.Parsing.{Cause, no_memory, Parsing}
 use Rattle.souper_graph.specs.Syntax.Tokens.{Lexeme}
 use Rattle.souper_graph.specs.Syntax.Spelling.{kinds, Scope}
 use Rattle.souper_ir.specs.Reading.{Gives, cause_of, IfRefused, if_refused, Fails, FailsForMemory, fails_later, IsRead}
-use Rattle.souper_ir.specs.Grammar.{Free, NextStops, Took, NoFront, Refusal}
+use Rattle.souper_ir.specs.Grammar.{Took, NoFront, Refusal}
 use Rattle.souper_ir.specs.Laws.Peeks.{ok_is}
-use Rattle.souper_ir.specs.Laws.Steps.{At}
 use Rattle.souper_ir.specs.Laws.Unique.{Alone, NextStops-from_Free}
-use Rattle.souper_ir.specs.Laws.Rules.{ReadingOf, ReadsValue, Rule, Any}
+use Rattle.souper_ir.specs.Laws.Rules.{ReadingOf, Rule, Any}
 
 module _ {Y : Type 0} {spells : Scope → Y → List Lexeme → Type 0} {continues : Y → Lexeme → Type 0} {read : ReadingOf Y} (rule : Rule Any spells continues read) where
   none_read : (p : Parsing) (ended : Bool) → read p ≡ Err ended → p.failed ≡ None → NoFront spells continues p

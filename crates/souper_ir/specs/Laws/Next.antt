@@ -4,7 +4,7 @@ use Rattle.souper_graph.specs.Syntax.Tokens.{Lexeme}
 use Rattle.souper_graph.specs.Syntax.Spelling.{kinds}
 use Rattle.souper_ir.specs.Parsing.{Cause, Parsing}
 use Rattle.souper_ir.specs.Reading.{◌>>=◌, looked_up, take_in, take_at}
-use Rattle.souper_ir.specs.Grammar.{Free, NextStops, Starts, peek_at}
+use Rattle.souper_ir.specs.Grammar.{NextStops, Starts, peek_at}
 use Rattle.souper_ir.specs.NodeReadings.{accept}
 use Rattle.souper_ir.specs.Laws.Peeks.{ok_is, Answers, answered}
 use Rattle.souper_ir.specs.Laws.Steps.{TakesTokens, At, bind_ok, up_ok}

@@ -9,7 +9,6 @@ use Rattle.souper_graph.specs.Values.{PlainPhi, PlainRhs, var, block, phi, reser
 use Rattle.souper_graph.specs.Syntax.Tokens.{Lexeme, ident, val_name}
 use Rattle.souper_graph.specs.Syntax.Numbers.{count_of}
 use Rattle.souper_graph.specs.Syntax.Spelling.{Scope, entry_of, ◌·◌, nothing, word, one, block_name, count, further, operands, rhs}
-use Rattle.souper_graph.specs.Syntax.Optional.{◌>>=◌ as ◌>>?◌}
 use Rattle.souper_graph.proofs.Forms.Parts.{both}
 use Rattle.souper_ir.specs.Reading.{◌>>=◌}
 use Rattle.souper_ir.specs.declared.parse.words.Opcode.{Opcode}
@@ -18,7 +17,7 @@ use Rattle.souper_ir.specs.declared.parse.words.RhsWord.TheVariants.{Var as begi
 use Rattle.souper_ir.specs.Words.{opcode_of, operand_count, instruction_by, rhs_keyword_of, instruction_or, rhs_word_of}
 use Rattle.souper_ir.specs.Continuation.{operands_continue, phi_continues, instruction_continues, rhs_continues}
 use Rattle.souper_ir.specs.Grammar.{Free, NextStops, Starts}
-use Rattle.souper_ir.specs.NodeReadings.{is_word, is_any, block_after_word_at, block_node_at, block_entry, block_name_at, phi_after_word_at, phi_at, instruction_of_at, instruction_at, starts_instruction, rhs_word_by, rhs_word_at, rhs_by, rhs_at}
+use Rattle.souper_ir.specs.NodeReadings.{is_any, block_after_word_at, block_node_at, block_entry, block_name_at, phi_after_word_at, phi_at, instruction_of_at, instruction_at, starts_instruction, rhs_word_by, rhs_word_at, rhs_by, rhs_at}
 use Rattle.souper_ir.specs.Laws.Peeks.{some_is}
 use Rattle.souper_ir.specs.Laws.Words.{opcode_is, opcode, made_means, some_of, word_by, word_by_is, word_is_by, opcode_named, named}
 use Rattle.souper_ir.specs.Laws.Rules.{FormOf, ReadingOf, Rule, Any, Never, reformed, given, done, int_read, ident_read, keyword, name_read, some, joined_to, joined_some, after, last, worded, either_rule, with_nothing, without_nothing}

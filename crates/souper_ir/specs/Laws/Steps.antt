@@ -1,5 +1,5 @@
 -- Lemmas. Steps of a reading: what they took, and what comes next.
-use Rattle.std.proofs.Common.{◌≡◌, ℕ, List, [], ◌∷◌, ◌++◌, Option, Some, None, Bool, Result, Ok, Err, refl, sym, ◌∙◌, ap, subst, append_assoc}
+use Rattle.std.proofs.Common.{◌≡◌, ℕ, List, [], ◌∷◌, ◌++◌, Option, Some, None, Bool, Result, Ok, Err, refl, sym, ◌∙◌, ap, append_assoc}
 use Rattle.souper_ir.specs.Parsing.{Parsing}
 use Rattle.souper_ir.specs.Reading.{◌>>=◌, looked_up}
 use Rattle.souper_graph.specs.Syntax.Tokens.{Lexeme}

@@ -38,6 +38,7 @@ shaped (one_operand f) a b c = f a
 shaped (two_operands f) a b c = f a b
 shaped (three_operands f) a b c = f a b c
 
+-- each instruction of the shape is so made
 abbrev Makes : Opcode → Shape → Type 0
 Makes o s = (a b c : Operand) → Made o (take (count_of_shape s) (a ∷ b ∷ c ∷ [])) (shaped s a b c)
 

@@ -1,11 +1,10 @@
-use Rattle.std.proofs.Common.{◌≡◌, Option, Some, None, Ok, refl, sym, ◌∙◌, ap, subst}
+use Rattle.std.proofs.Common.{◌≡◌, Option, Some, None, refl, sym, ◌∙◌, ap, subst}
 use Rattle.std.specs.Prelude.{is_some, map}
 use Rattle.std.proofs.lemmas.List.{length-map}
 use Rattle.souper_graph.specs.View.{view_statement}
 use Rattle.souper_graph.specs.Syntax.Spelling.{position_of}
 use Rattle.souper_errors.specs.Errors.{error_of, at_end_of}
 use Rattle.souper_names.specs.TableView.{NameEntry}
-use Rattle.souper_ir.specs.NodeReadings.{new_name_at}
 use Rattle.souper_ir.specs.Parsing.{Parsing}
 use Rattle.souper_ir.specs.Reading.{cause_of}
 use Rattle.souper_ir.proofs.Nodes.Failing.{refused_for, fails_first}
