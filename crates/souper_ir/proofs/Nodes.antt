@@ -4,7 +4,6 @@ pub mod Lists
 pub mod Failing
 pub mod Operands
 pub mod Numerals
-pub mod BitLists
 pub mod Limits
 pub mod Taken
 pub mod Statements

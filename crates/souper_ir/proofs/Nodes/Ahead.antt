@@ -1,17 +1,16 @@
 -- Facts about a parser whose next token comes, though it was not lexed.
-use Rattle.std.proofs.Common.{◌≡◌, ◌⊎◌, ℕ, Bool, true, false, List, [], ◌∷◌, None, Ok, refl, sym, ◌∙◌, ap, subst, inl, inr}
+use Rattle.std.proofs.Common.{◌≡◌, ℕ, Bool, true, false, List, [], ◌∷◌, None, Ok, refl, sym, ◌∙◌, ap, subst}
 use Rattle.std.specs.Prelude.{Result}
+use Rattle.std.proofs.Math.Logic.{⊎_elim}
 use Rattle.souper_graph.specs.declared.ast.operands.Operand.{Operand}
 use Rattle.souper_errors.specs.declared.error.ParseError.{ParseError}
 use Rattle.souper_graph.specs.Values.{PlainAttribute}
 use Rattle.souper_graph.specs.Syntax.Spelling.{kinds, attribute as attribute_form}
 use Rattle.souper_graph.specs.Syntax.Tokens.{Lexeme, val_name, int, comma, colon, equals, open_paren}
-use Rattle.souper_ir.specs.declared.parse.item.Next.TheVariants.{Assignment}
 use Rattle.souper_ir.specs.Grammar.{Comes, Free, Took, peek_at}
 use Rattle.souper_ir.specs.Laws.Attributed.{Row, OneMore}
 use Rattle.souper_ir.specs.Laws.Peeks.{Answers, peeked, answered}
 use Rattle.souper_ir.specs.Laws.Tokens.{is_mark_means}
-use Rattle.souper_ir.specs.NextStatement.{next_at}
 use Rattle.souper_ir.specs.NodeReadings.{accept, as_mark, is_mark, is_name, optional_type_at, type_and_equals_at, operand_by, operand_at}
 use Rattle.souper_ir.specs.Parsing.{Parsing}
 use Rattle.souper_ir.specs.Reading.{Gives, IsRead}
@@ -65,11 +64,7 @@ IsName t = (n : List ℕ) × (t ≡ val_name n)
 
 no_paren : (faulty : Bool) (ts : List (ℕ × Lexeme)) → Answers (is_mark open_paren) false faulty ts → Free (OneMore {X = PlainAttribute} []) (kinds ts)
 no_paren faulty [] h = tt
-no_paren faulty (t ∷ ts) h = refuted
-  where
-    refuted : (is_mark open_paren t.1 ≡ true) ⊎ ⊥ → ⊥
-    refuted (inl e) = let clash : true ≡ false = sym e ∙ h in cc
-    refuted (inr x) = x
+no_paren faulty (t ∷ ts) h = ⊎_elim (λ (e : is_mark open_paren t.1 ≡ true). let clash : true ≡ false = sym e ∙ h in absurd cc) (λ x. x)
 
 pub no_attributes : (xs : List PlainAttribute) (p : Parsing) → xs ≡ [] → Comes IsName p → Took (Row attribute_form) OneMore (λ s. s) xs p p
 no_attributes xs p none c =
@@ -77,7 +72,3 @@ no_attributes xs p none c =
     let s = peeked (is_mark open_paren) p p false ((tested (is_mark open_paren) c.0 p c.1).0 ∙ ap (λ (b : Bool). Ok (b, p)) other) in
     subst (λ (ys : List PlainAttribute). Took (Row attribute_form) OneMore (λ s. s) ys p p) (sym none)
     (record { used = []; parts = refl; spelled = refl; free = no_paren p.faulty p.tokens s.2; live = s.1; state = refl })
-
-pub assignment_next : (p : Parsing) → Comes IsName p → IsRead (next_at p) Assignment p p
-unfolding next_at
-assignment_next p c = (rw (c.1.0, c.2.1) refl, c.1.1, c.1.2, refl)

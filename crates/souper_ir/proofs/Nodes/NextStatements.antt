@@ -1,7 +1,7 @@
 -- Facts about the next token, by the statement that it begins.
-use Rattle.std.proofs.Common.{◌≡◌, Bool, true, false, Option, Some, None, Ok, Err, refl, ◌∙◌, ap, subst}
+use Rattle.std.proofs.Common.{◌≡◌, Bool, true, false, Option, Some, Ok, Err, refl, ◌∙◌, ap, subst}
 use Rattle.std.specs.Prelude.{codes, if◌then◌else◌}
-use Rattle.souper_graph.specs.Syntax.Tokens.{Lexeme, ident, val_name, known_bits, int, comma, colon, equals, open_paren, close_paren, open_bracket}
+use Rattle.souper_graph.specs.Syntax.Tokens.{Lexeme, ident}
 use Rattle.souper_ir.specs.declared.parse.item.Next.{Next}
 use Rattle.souper_ir.specs.declared.parse.item.Next.TheVariants.{Assignment, Pc, BlockPc, Other}
 use Rattle.souper_ir.specs.Parsing.{Parsing}
@@ -15,29 +15,25 @@ use Rattle.souper_ir.specs.Laws.Steps.{bind_ok}
 abbrev any_of : Bool → Bool → Bool → Bool
 any_of a b c = if a then true else (if b then true else c)
 
-is_pc : (a b c : Bool) → next_statement_by a b c ≡ Pc → (a ≡ true) × (any_of a b c ≡ true)
-is_pc true b c e = (refl, refl)
-is_pc false true c e = absurd cc
-is_pc false false true e = absurd cc
-is_pc false false false e = absurd cc
+-- what the three tests are, by the statement
+abbrev Words : Next → Bool → Bool → Type 0
+Words Pc a b = a ≡ true
+Words BlockPc a b = b ≡ true
+Words Assignment a b = (a ≡ false) × (b ≡ false)
+Words Other a b = Unit {0}
 
-is_block_pc : (a b c : Bool) → next_statement_by a b c ≡ BlockPc → (b ≡ true) × (any_of a b c ≡ true)
-is_block_pc true b c e = absurd cc
-is_block_pc false true c e = (refl, refl)
-is_block_pc false false true e = absurd cc
-is_block_pc false false false e = absurd cc
+abbrev is_statement : Next → Bool
+is_statement Other = false
+is_statement _ = true
 
-is_assignment : (a b c : Bool) → next_statement_by a b c ≡ Assignment → (a ≡ false) × (b ≡ false) × (any_of a b c ≡ true)
-is_assignment true b c e = absurd cc
-is_assignment false true c e = absurd cc
-is_assignment false false true e = (refl, refl, refl)
-is_assignment false false false e = absurd cc
+abbrev Tests : Next → Bool → Bool → Bool → Type 0
+Tests n a b c = Words n a b × (any_of a b c ≡ is_statement n)
 
-is_other : (a b c : Bool) → next_statement_by a b c ≡ Other → any_of a b c ≡ false
-is_other true b c e = absurd cc
-is_other false true c e = absurd cc
-is_other false false true e = absurd cc
-is_other false false false e = refl
+tests : (a b c : Bool) → Tests (next_statement_by a b c) a b c
+tests true b c = (refl, refl)
+tests false true c = (refl, refl)
+tests false false true = ((refl, refl), refl)
+tests false false false = (tt, refl)
 
 -- a statement starts with one of the three
 one_of : Option Lexeme → Bool
@@ -50,17 +46,11 @@ either false false = refl
 
 starts_are : (t : Option Lexeme) → starts_next starts_statement t ≡ one_of t
 unfolding one_of
-starts_are None = refl
 starts_are (Some (ident w)) = either (is_word (codes "pc") (ident w)) (is_word (codes "blockpc") (ident w))
-starts_are (Some (val_name n)) = refl
-starts_are (Some (known_bits s)) = refl
-starts_are (Some (int w)) = refl
-starts_are (Some comma) = refl
-starts_are (Some colon) = refl
-starts_are (Some equals) = refl
-starts_are (Some open_paren) = refl
-starts_are (Some close_paren) = refl
-starts_are (Some open_bracket) = refl
+starts_are _ = refl
+
+told : (t : Option Lexeme) (n : Next) → next_statement_of t ≡ n → Tests n (starts_next (is_word (codes "pc")) t) (starts_next (is_word (codes "blockpc")) t) (starts_next is_name t)
+told t n e = subst (λ (z : Next). Tests z (starts_next (is_word (codes "pc")) t) (starts_next (is_word (codes "blockpc")) t) (starts_next is_name t)) e (tests _ _ _)
 
 -- what each token that begins this is, the next one is
 seen : (starts : Lexeme → Bool) (b : Bool) (n : Next) (p q : Parsing) → ((t : Option Lexeme) → next_statement_of t ≡ n → starts_next starts t ≡ b) → IsRead (next_at p) n p q → IsRead (peek_at starts p) b p q
@@ -72,13 +62,7 @@ seen starts b n p q is h =
     let behind : s.0.1 ≡ q = ap (λ (x : Next × Parsing). x.1) same in
     (rw (s.1, told, behind) refl, h.1, h.2, h.3)
 
-abbrev nexts : Reads (Option Lexeme) → Reads Next
-nexts o = o >>= λ t. Ok (next_statement_of t.0, t.1)
-
-abbrev peeks : (Lexeme → Bool) → Reads (Option Lexeme) → Reads Bool
-peeks starts o = o >>= λ t. Ok (starts_next starts t.0, t.1)
-
-unseen_in : (starts : Lexeme → Bool) (ended : Bool) (o : Reads (Option Lexeme)) → nexts o ≡ Err ended → peeks starts o ≡ Err ended
+unseen_in : (starts : Lexeme → Bool) (ended : Bool) (o : Reads (Option Lexeme)) → ◌≡◌ {A = Reads Next} (o >>= λ t. Ok (next_statement_of t.0, t.1)) (Err ended) → ◌≡◌ {A = Reads Bool} (o >>= λ t. Ok (starts_next starts t.0, t.1)) (Err ended)
 unseen_in starts ended (Err b) e = let same : b ≡ ended = cc in ap (λ (x : Bool). Err x) same
 unseen_in starts ended (Ok t) e = absurd cc
 
@@ -87,36 +71,32 @@ unfolding next_at peek_at
 unseen starts p ended e = unseen_in starts ended (look_at p) e
 
 pub pc_seen : (p q : Parsing) → IsRead (next_at p) Pc p q → IsRead (peek_at (is_word (codes "pc")) p) true p q
-pc_seen p q h = seen (is_word (codes "pc")) true Pc p q (λ t e. (is_pc _ _ _ e).0) h
+pc_seen p q h = seen (is_word (codes "pc")) true Pc p q (λ t e. (told t Pc e).0) h
 
 pub block_pc_seen : (p q : Parsing) → IsRead (next_at p) BlockPc p q → IsRead (peek_at (is_word (codes "blockpc")) p) true p q
-block_pc_seen p q h = seen (is_word (codes "blockpc")) true BlockPc p q (λ t e. (is_block_pc _ _ _ e).0) h
+block_pc_seen p q h = seen (is_word (codes "blockpc")) true BlockPc p q (λ t e. (told t BlockPc e).0) h
 
 pub no_pc_seen : (p q : Parsing) → IsRead (next_at p) Assignment p q → IsRead (peek_at (is_word (codes "pc")) p) false p q
-no_pc_seen p q h = seen (is_word (codes "pc")) false Assignment p q (λ t e. (is_assignment _ _ _ e).0) h
+no_pc_seen p q h = seen (is_word (codes "pc")) false Assignment p q (λ t e. (told t Assignment e).0.0) h
 
 pub no_block_pc_seen : (p q : Parsing) → IsRead (next_at p) Assignment p q → IsRead (peek_at (is_word (codes "blockpc")) p) false p q
-no_block_pc_seen p q h = seen (is_word (codes "blockpc")) false Assignment p q (λ t e. (is_assignment _ _ _ e).1) h
+no_block_pc_seen p q h = seen (is_word (codes "blockpc")) false Assignment p q (λ t e. (told t Assignment e).0.1) h
 
 abbrev pub IsStatement : Next → Type 0
-IsStatement Pc = Unit {0}
-IsStatement BlockPc = Unit {0}
-IsStatement Assignment = Unit {0}
 IsStatement Other = ⊥
+IsStatement _ = Unit {0}
 
 begun : (n : Next) (t : Option Lexeme) → IsStatement n → next_statement_of t ≡ n → starts_next starts_statement t ≡ true
 unfolding one_of
-begun Pc t h e = starts_are t ∙ (is_pc _ _ _ e).1
-begun BlockPc t h e = starts_are t ∙ (is_block_pc _ _ _ e).1
-begun Assignment t h e = starts_are t ∙ (is_assignment _ _ _ e).2
 begun Other t h e = absurd h
+begun n t h e = starts_are t ∙ (told t n e).1
 
 pub statement_seen : (n : Next) (p q : Parsing) → IsStatement n → IsRead (next_at p) n p q → IsRead (peek_at starts_statement p) true p q
 statement_seen n p q is h = seen starts_statement true n p q (λ t e. begun n t is e) h
 
 pub no_statement_seen : (p q : Parsing) → IsRead (next_at p) Other p q → IsRead (peek_at starts_statement p) false p q
 unfolding one_of
-no_statement_seen p q h = seen starts_statement false Other p q (λ t e. starts_are t ∙ is_other _ _ _ e) h
+no_statement_seen p q h = seen starts_statement false Other p q (λ t e. starts_are t ∙ (told t Other e).1) h
 
 -- a look takes no token
 pub next_stays : (p q : Parsing) (n : Next) → next_at p ≡ Ok (n, q) → p ≡ q

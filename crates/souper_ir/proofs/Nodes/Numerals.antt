@@ -1,6 +1,6 @@
 -- What `parse` returns, in terms of numbers and widths.
-use Rattle.std.proofs.Common.{◌≡◌, ℕ, ◌-◌, ◌^◌, ◌<◌, ◌≢◌, ◌==◌, Bool, true, false, ◌&&◌, ℤ, pos, negsuc, zero, suc, List, [], ◌∷◌, length, Option, Some, None, refl, sym, ◌∙◌, ap, subst, Decides, arith, eqb-true, ◌+◌, drop, lit<}
-use Rattle.std.specs.Prelude.{Result, Ok, Err, OkIff, if◌then◌else◌, nat_lt, int_le, neg_ℤ, FitsSigned}
+use Rattle.std.proofs.Common.{◌≡◌, ℕ, ◌-◌, ◌^◌, ◌<◌, ◌≢◌, ◌==◌, Bool, true, false, ◌&&◌, ℤ, pos, negsuc, List, [], ◌∷◌, length, Option, Some, None, refl, sym, ◌∙◌, ap, subst, Decides, arith, eqb-true, ◌+◌, drop, lit<}
+use Rattle.std.specs.Prelude.{Result, Ok, Err, OkIff, if◌then◌else◌, nat_lt, int_le, FitsSigned}
 use Rattle.std.specs.Char.{is_ascii_digit}
 use Rattle.std.specs.List.{list_all}
 use Rattle.std.specs.Str.Parse.{AllDigits, IsNumeral, digits_value, signed_digits_value, without_leading_sign, ParsesUnsigned}
@@ -10,8 +10,8 @@ use Rattle.std.specs.Prelude.{MatchOption}
 use Rattle.std.proofs.lemmas.Str.Pattern.{strip_prefix_char}
 use Rattle.std.specs.Str.Pattern.{FindsCharPrefix}
 use Rattle.std.proofs.lemmas.Result.{OkIff-at_ok, OkIff-at_err}
-use Rattle.std.proofs.lemmas.Bool.{leb-true, ltb-true, lt-ltb, le-leb}
-use Rattle.std.proofs.lemmas.Bool.Decides.{Decides-and, Decides-ltb, nat_tests}
+use Rattle.std.proofs.lemmas.Bool.{and_parts, leb-true, ltb-true, lt-ltb, le-leb}
+use Rattle.std.proofs.lemmas.Bool.Decides.{Decides-and, Decides-ltb}
 use Rattle.std.proofs.lemmas.Int.{to_z-of_z}
 use mir.Syntax.{w128}
 use mir.Val.{to_z, of_z}
@@ -21,14 +21,10 @@ pub are_digits-is : (ds : List ℕ) → list_all is_ascii_digit ds ≡ are_digit
 are_digits-is [] = refl
 are_digits-is (c ∷ cs) = ap (λ (b : Bool). is_ascii_digit c && b) (are_digits-is cs)
 
-both : (a b : Bool) → (a && b) ≡ true → (a ≡ true) × (b ≡ true)
-both true b e = (refl, e)
-both false b e = absurd cc
-
 tells_are_digits : IsDigitsTest (λ ds. are_digits ds ≡ true)
 tells_are_digits = record {
   empty = refl;
-  parts = λ c cs e. let k = both (is_ascii_digit c) (are_digits cs) e in let m = both _ _ k.0 in ((leb-true 48 c m.0, leb-true c 57 m.1), k.1);
+  parts = λ c cs e. let k = and_parts (is_ascii_digit c) (are_digits cs) e in let m = and_parts _ _ k.0 in ((leb-true 48 c m.0, leb-true c 57 m.1), k.1);
   more = λ c cs k e i. (le-leb 48 c k.0 i && le-leb c 57 k.1 i) && e i;
 }
 
@@ -43,7 +39,7 @@ is_numeral_decides ds = Decides-and (nat_lt 0 (length ds)) (are_digits ds) (Deci
 
 pub is_within_decides : (z : ℤ) → Decides (is_within z) (FitsSigned w128 z)
 is_within_decides (pos n) = (λ e. omega (arith, leb-true n (2 ^ 127 - 1) e), λ h. le-leb n (2 ^ 127 - 1) (omega arith))
-is_within_decides (negsuc n) = (λ e. omega (arith, leb-true n (2 ^ 127 - 1) (both (int_le (negsuc (2 ^ 127 - 1)) (negsuc n)) true e).0), λ h. rw (le-leb n (2 ^ 127 - 1) (omega arith)) refl)
+is_within_decides (negsuc n) = (λ e. omega (arith, leb-true n (2 ^ 127 - 1) (and_parts (int_le (negsuc (2 ^ 127 - 1)) (negsuc n)) true e).0), λ h. rw (le-leb n (2 ^ 127 - 1) (omega arith)) refl)
 
 -- the number of a word
 abbrev IsNumber : List ℕ → Type 0
@@ -71,36 +67,8 @@ number_read w z h =
 pub number_refused : (w : List ℕ) → ¬ (IsNumber w) → number_of w ≡ None
 number_refused w h = none_if (is_number w) (signed_digits_value 10 w) (λ e. h ((is_number_decides w).0 e))
 
-module _ (c : ℕ) (d : is_ascii_digit c ≡ true) where
-  no_minus : (c == 45) ≡ false
-  no_minus = grind (arith, nat_tests)
-
-  no_plus : (c == 43) ≡ false
-  no_plus = grind (arith, nat_tests)
-
 pub numeral_is : (ds : List ℕ) → 0 < length ds → are_digits ds ≡ true → is_numeral ds ≡ true
 numeral_is ds h d = rw (lt-ltb 0 (length ds) h) d
-
--- a word of digits alone, whose number is small
-pub digits_read : (w : List ℕ) (n : ℕ) → is_numeral w ≡ true → digits_value 10 w ≡ n → n < 2 ^ 64 → number_of w ≡ Some (pos n)
-digits_read [] n d v b = absurd cc
-digits_read (c ∷ cs) n d v b =
-    let digits = (both (nat_lt 0 (length (c ∷ cs))) (are_digits (c ∷ cs)) d).1 in
-    let first = (both (is_ascii_digit c) (are_digits cs) digits).0 in
-    let value : signed_digits_value 10 (c ∷ cs) ≡ pos n = rw (no_minus c first, no_plus c first) (ap pos v) in
-    let numeral : is_numeral (without_leading_sign (c ∷ cs)) ≡ true = rw (no_minus c first, no_plus c first) d in
-    let within : is_within (pos n) ≡ true = le-leb n (2 ^ 127 - 1) (omega arith) in
-    some_if (is_number (c ∷ cs)) (signed_digits_value 10 (c ∷ cs)) (pos n) (rw (numeral, value) within) value
-
-within_negated : (n : ℕ) → n < 2 ^ 64 → is_within (neg_ℤ (pos n)) ≡ true
-within_negated zero h = refl
-within_negated (suc n) h = rw (le-leb n (2 ^ 127 - 1) (omega arith)) refl
-
--- the same behind `-` (45)
-pub negated_read : (w ds : List ℕ) (n : ℕ) → w ≡ 45 ∷ ds → is_numeral ds ≡ true → digits_value 10 ds ≡ n → n < 2 ^ 64 → number_of w ≡ Some (neg_ℤ (pos n))
-negated_read w ds n e d v b =
-    let value : signed_digits_value 10 (45 ∷ ds) ≡ neg_ℤ (pos n) = ap (λ (k : ℕ). neg_ℤ (pos k)) v in
-    ap number_of e ∙ some_if (is_number (45 ∷ ds)) (signed_digits_value 10 (45 ∷ ds)) (neg_ℤ (pos n)) (rw (d, value) (within_negated n b)) value
 
 -- ---- widths
 
@@ -113,7 +81,7 @@ width_in ds = if is_width ds then Some (digits_value 10 ds) else None
 no_width : (w : List ℕ) → ((rest : List ℕ) → w ≢ 105 ∷ rest) → None ≡ width_of w
 no_width [] h = refl
 no_width (c ∷ ds) h = sym (none_if (((c == 105) && is_numeral ds) && (nat_lt 0 (digits_value 10 ds) && nat_lt (digits_value 10 ds) (2 ^ 16))) (digits_value 10 ds)
-    (λ e. h ds (ap (λ (x : ℕ). x ∷ ds) (eqb-true c 105 (both (c == 105) (is_numeral ds) (both ((c == 105) && is_numeral ds) (nat_lt 0 (digits_value 10 ds) && nat_lt (digits_value 10 ds) (2 ^ 16)) e).0).0))))
+    (λ e. h ds (ap (λ (x : ℕ). x ∷ ds) (eqb-true c 105 (and_parts (c == 105) (is_numeral ds) (and_parts ((c == 105) && is_numeral ds) (nat_lt 0 (digits_value 10 ds) && nat_lt (digits_value 10 ds) (2 ^ 16)) e).0).0))))
 
 -- after the `i`, if the word begins with it
 module _ (w : List ℕ) (r : Option (Bor (List ℕ))) (cases : MatchOption r (FindsCharPrefix 105 w None) (λ x. (n : ℕ) × FindsCharPrefix 105 w (Some n) × (x.now ≡ drop n w) × (length x.now + n ≡ length w))) where
@@ -137,13 +105,10 @@ width_by w ds e = ap width_of e
 -- what a width's test asks
 all_four : (ds : List ℕ) → is_width ds ≡ true → (nat_lt 0 (length ds) ≡ true) × (are_digits ds ≡ true) × (nat_lt 0 (digits_value 10 ds) ≡ true) × (nat_lt (digits_value 10 ds) (2 ^ 16) ≡ true)
 all_four ds e =
-    let k = both (is_numeral ds) (nat_lt 0 (digits_value 10 ds) && nat_lt (digits_value 10 ds) (2 ^ 16)) e in
-    let front = both (nat_lt 0 (length ds)) (are_digits ds) k.0 in
-    let back = both (nat_lt 0 (digits_value 10 ds)) (nat_lt (digits_value 10 ds) (2 ^ 16)) k.1 in
+    let k = and_parts (is_numeral ds) (nat_lt 0 (digits_value 10 ds) && nat_lt (digits_value 10 ds) (2 ^ 16)) e in
+    let front = and_parts (nat_lt 0 (length ds)) (are_digits ds) k.0 in
+    let back = and_parts (nat_lt 0 (digits_value 10 ds)) (nat_lt (digits_value 10 ds) (2 ^ 16)) k.1 in
     (front.0, front.1, back.0, back.1)
-
-each : (a b c d : Bool) → a ≡ true → b ≡ true → c ≡ true → d ≡ true → ((a && b) && (c && d)) ≡ true
-each a b c d e f g h = rw (e, f, g, h) refl
 
 -- what `parse` returns if each byte is a digit
 width_parsed : {E : Type 0} (ds : List ℕ) (r : Result ℕ E) → are_digits ds ≡ true → ParsesUnsigned 16 10 ds r → OkIff r ((0 < length ds) × (digits_value 10 ds < 2 ^ 16)) (digits_value 10 ds)
@@ -155,7 +120,7 @@ width_read w ds n r e d h is more =
     let long : nat_lt 0 (length ds) ≡ true = lt-ltb 0 (length ds) k.0.0 in
     let positive : nat_lt 0 (digits_value 10 ds) ≡ true = lt-ltb 0 (digits_value 10 ds) (subst (λ (x : ℕ). 0 < x) k.1 more) in
     let small : nat_lt (digits_value 10 ds) (2 ^ 16) ≡ true = lt-ltb (digits_value 10 ds) (2 ^ 16) k.0.1 in
-    sym (width_by w ds e ∙ some_if (is_width ds) (digits_value 10 ds) n (each (nat_lt 0 (length ds)) (are_digits ds) (nat_lt 0 (digits_value 10 ds)) (nat_lt (digits_value 10 ds) (2 ^ 16)) long d positive small) (sym k.1))
+    sym (width_by w ds e ∙ some_if (is_width ds) (digits_value 10 ds) n (rw (long, d, positive, small) refl) (sym k.1))
 
 pub width_refused : {E : Type 0} (w ds : List ℕ) (r : Result ℕ E) (x : E) → w ≡ 105 ∷ ds → are_digits ds ≡ true → ParsesUnsigned 16 10 ds r → r ≡ Err x → None ≡ width_of w
 width_refused w ds r x e d h is =

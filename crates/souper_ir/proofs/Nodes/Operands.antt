@@ -1,5 +1,5 @@
 -- Operands that a loop reads in sequence.
-use Rattle.std.proofs.Common.{◌≡◌, ◌≢◌, ℕ, ◌+◌, ◌<◌, zero, suc, List, [], ◌∷◌, ◌++◌, Some, Bool, Result, Ok, Err, refl, sym, ◌∙◌, arith, add-one}
+use Rattle.std.proofs.Common.{◌≡◌, ◌≢◌, ℕ, ◌+◌, ◌<◌, zero, suc, List, [], ◌∷◌, ◌++◌, Some, Bool, Ok, Err, refl, sym, ◌∙◌, ap, subst, arith, add-one, ◌-◌}
 use Rattle.souper_graph.specs.declared.ast.instructions.Instruction.{Instruction}
 use Rattle.souper_graph.specs.declared.ast.operands.Operand.{Operand}
 use Rattle.souper_graph.specs.Syntax.Tokens.{comma}
@@ -10,55 +10,44 @@ use Rattle.souper_errors.specs.Errors.{at_end_of}
 use Rattle.souper_ir.specs.Parsing.{Parsing}
 use Rattle.souper_ir.specs.NodeReadings.{accept, as_mark, operand_at, next_operand_at, further_at, operands_at, instruction_of_at}
 use Rattle.souper_ir.specs.Reading.{Reads, ◌>>=◌, cause_of, IfRefused, if_refused, Fails, fails_later}
-use Rattle.souper_ir.specs.Laws.Steps.{bind_ok, holds_of_same}
-
-bind_assoc : {A B C : Type 0} (o : Result A Bool) (f : A → Result B Bool) (g : B → Result C Bool) → (o >>= λ x. f x >>= g) ≡ ((o >>= f) >>= g)
-bind_assoc (Ok x) f g = refl
-bind_assoc (Err b) f g = refl
+use Rattle.souper_ir.specs.Laws.Rules.{regrouped, read_next}
 
 -- the operands that are read after one that was
 abbrev then_further : ℕ → Operand × Parsing → Reads (List Operand)
 then_further k x = further_at k x.1 >>= λ xs. Ok (x.0 ∷ xs.0, xs.1)
 
+-- one more operand, after those that were read
+abbrev and_next : List Operand × Parsing → Reads (List Operand)
+and_next xs = next_operand_at xs.1 >>= λ x. Ok (xs.0 ++ x.0 ∷ [], x.1)
+
+in_front : (x : Operand) (m : Reads (List Operand)) → ((m >>= and_next) >>= λ xs. Ok (x ∷ xs.0, xs.1)) ≡ ((m >>= λ xs. Ok (x ∷ xs.0, xs.1)) >>= and_next)
+in_front x (Ok xs) = sym (regrouped (next_operand_at xs.1) _ _)
+in_front x (Err b) = refl
+
 further_next : (k : ℕ) (p : Parsing) → further_at (suc k) p ≡ (next_operand_at p >>= then_further k)
 unfolding next_operand_at
-further_next k p = bind_assoc (accept (as_mark comma) p) (λ c. operand_at c.1) (then_further k)
+further_next k p = regrouped (accept (as_mark comma) p) (λ c. operand_at c.1) (then_further k)
 
--- what the operand that is read first, and those that are read after it, make together
-further_by : (k : ℕ) (p y q : Parsing) (x : Operand) (xs : List Operand) → next_operand_at p ≡ Ok (x, y) → further_at k y ≡ Ok (xs, q) → further_at (suc k) p ≡ Ok (x ∷ xs, q)
-further_by k p y q x xs d e = further_next k p ∙ rw (d, e) refl
+then_last : (k : ℕ) → ((p : Parsing) → further_at (suc k) p ≡ (further_at k p >>= and_next)) → (x : Operand × Parsing) → then_further (suc k) x ≡ (then_further k x >>= and_next)
+then_last k last x = ap (λ m. m >>= λ xs. Ok (x.0 ∷ xs.0, xs.1)) (last x.1) ∙ in_front x.0 (further_at k x.1)
 
-further_none : (k : ℕ) (b : Bool) (p y : Parsing) (x : Operand) → next_operand_at p ≡ Ok (x, y) → further_at k y ≡ Err b → further_at (suc k) p ≡ Err b
-further_none k b p y x d e = further_next k p ∙ rw (d, e) refl
+-- the last operand is read after the others
+further_last : (k : ℕ) (p : Parsing) → further_at (suc k) p ≡ (further_at k p >>= and_next)
+further_last zero p = further_next zero p
+further_last (suc k) p =
+    further_next (suc k) p ∙ read_next (next_operand_at p) (then_further (suc k)) (λ x. then_further k x >>= and_next) (then_last k (further_last k))
+    ∙ regrouped (next_operand_at p) (then_further k) and_next ∙ ap (λ m. m >>= and_next) (sym (further_next k p))
 
-operands_by : (k : ℕ) (p y q : Parsing) (x : Operand) (xs : List Operand) → operand_at p ≡ Ok (x, y) → further_at k y ≡ Ok (xs, q) → operands_at (suc k) p ≡ Ok (x ∷ xs, q)
-operands_by k p y q x xs d e = rw (d, e) refl
+operands_last : (p : Parsing) (k : ℕ) → operands_at (suc (suc k)) p ≡ (operands_at (suc k) p >>= and_next)
+operands_last p k = read_next (operand_at p) (then_further (suc k)) (λ x. then_further k x >>= and_next) (then_last k (further_last k)) ∙ regrouped (operand_at p) (then_further k) and_next
 
-operands_none_by : (k : ℕ) (b : Bool) (p y : Parsing) (x : Operand) → operand_at p ≡ Ok (x, y) → further_at k y ≡ Err b → operands_at (suc k) p ≡ Err b
-operands_none_by k b p y x d e = rw (d, e) refl
-
-further_more_suc : (n : ℕ) (p q r : Parsing) (xs : List Operand) (x : Operand) → further_at n p ≡ Ok (xs, q) → next_operand_at q ≡ Ok (x, r) → further_at (suc n) p ≡ Ok (xs ++ x ∷ [], r)
-further_more_suc zero p q r xs x d e =
-    holds_of_same (λ (y : List Operand × Parsing). next_operand_at y.1 ≡ Ok (x, r) → further_at (suc zero) p ≡ Ok (y.0 ++ x ∷ [], r)) ([], p) (xs, q) d
-    (λ e. further_next zero p ∙ rw e refl) e
-further_more_suc (suc k) p q r xs x d e =
-    let y = bind_ok (next_operand_at p) (then_further k) (xs, q) (sym (further_next k p) ∙ d) in
-    let ys = bind_ok (further_at k y.0.1) (λ ys. Ok (y.0.0 ∷ ys.0, ys.1)) (xs, q) y.2 in
-    holds_of_same (λ (z : List Operand × Parsing). next_operand_at z.1 ≡ Ok (x, r) → further_at (suc (suc k)) p ≡ Ok (z.0 ++ x ∷ [], r)) (y.0.0 ∷ ys.0.0, ys.0.1) (xs, q) ys.2
-    (λ e. further_by (suc k) p y.0.1 r y.0.0 (ys.0.0 ++ x ∷ []) y.1 (further_more_suc k y.0.1 ys.0.1 r ys.0.0 x ys.1 e)) e
+module _ (read : ℕ → Reads (List Operand)) (last : (k : ℕ) → read (suc k) ≡ (read k >>= and_next)) where
+  stuck : (j n k : ℕ) (b : Bool) (q : Parsing) (xs : List Operand) → n + suc j ≡ k → read n ≡ Ok (xs, q) → next_operand_at q ≡ Err b → read k ≡ Err b
+  stuck zero n k b q xs s d e = subst (λ (m : ℕ). read m ≡ Err b) (let same : suc n ≡ k = omega arith in same) (last n ∙ rw (d, e) refl)
+  stuck (suc j) n k b q xs s d e = subst (λ (m : ℕ). read m ≡ Err b) (let same : suc (n + suc j) ≡ k = omega arith in same) (last (n + suc j) ∙ rw (stuck j n (n + suc j) b q xs refl d e) refl)
 
 pub further_more : (n : ℕ) (p q r : Parsing) (xs : List Operand) (x : Operand) → further_at n p ≡ Ok (xs, q) → next_operand_at q ≡ Ok (x, r) → further_at (n + 1) p ≡ Ok (xs ++ x ∷ [], r)
-further_more n p q r xs x d e = rw add-one (further_more_suc n p q r xs x d e)
-
-further_stuck : (n k : ℕ) (b : Bool) (p q : Parsing) (xs : List Operand) → n < k → further_at n p ≡ Ok (xs, q) → next_operand_at q ≡ Err b → further_at k p ≡ Err b
-further_stuck n zero b p q xs l d e = absurd (omega arith)
-further_stuck zero (suc k) b p q xs l d e =
-    holds_of_same (λ (y : List Operand × Parsing). next_operand_at y.1 ≡ Err b → further_at (suc k) p ≡ Err b) ([], p) (xs, q) d (λ e. further_next k p ∙ rw e refl) e
-further_stuck (suc n) (suc k) b p q xs l d e =
-    let y = bind_ok (next_operand_at p) (then_further n) (xs, q) (sym (further_next n p) ∙ d) in
-    let ys = bind_ok (further_at n y.0.1) (λ ys. Ok (y.0.0 ∷ ys.0, ys.1)) (xs, q) y.2 in
-    holds_of_same (λ (z : List Operand × Parsing). next_operand_at z.1 ≡ Err b → further_at (suc k) p ≡ Err b) (y.0.0 ∷ ys.0.0, ys.0.1) (xs, q) ys.2
-    (λ e. further_none k b p y.0.1 y.0.0 y.1 (further_stuck n k b y.0.1 ys.0.1 ys.0.0 (omega arith) ys.1 e)) e
+further_more n p q r xs x d e = rw add-one (further_last n p ∙ rw (d, e) refl)
 
 -- ---- with commas between them
 
@@ -69,25 +58,13 @@ operands_none : (k : ℕ) (b : Bool) (p : Parsing) → 0 < k → operand_at p �
 operands_none zero b p l e = absurd (omega arith)
 operands_none (suc k) b p l e = rw e refl
 
-operands_more_suc : (n : ℕ) (p q r : Parsing) (xs : List Operand) (x : Operand) → 0 < n → operands_at n p ≡ Ok (xs, q) → next_operand_at q ≡ Ok (x, r) → operands_at (suc n) p ≡ Ok (xs ++ x ∷ [], r)
-operands_more_suc zero p q r xs x l d e = absurd (omega arith)
-operands_more_suc (suc k) p q r xs x l d e =
-    let y = bind_ok (operand_at p) (then_further k) (xs, q) d in
-    let ys = bind_ok (further_at k y.0.1) (λ ys. Ok (y.0.0 ∷ ys.0, ys.1)) (xs, q) y.2 in
-    holds_of_same (λ (z : List Operand × Parsing). next_operand_at z.1 ≡ Ok (x, r) → operands_at (suc (suc k)) p ≡ Ok (z.0 ++ x ∷ [], r)) (y.0.0 ∷ ys.0.0, ys.0.1) (xs, q) ys.2
-    (λ e. operands_by (suc k) p y.0.1 r y.0.0 (ys.0.0 ++ x ∷ []) y.1 (further_more_suc k y.0.1 ys.0.1 r ys.0.0 x ys.1 e)) e
-
 pub operands_more : (n : ℕ) (p q r : Parsing) (xs : List Operand) (x : Operand) → 0 < n → operands_at n p ≡ Ok (xs, q) → next_operand_at q ≡ Ok (x, r) → operands_at (n + 1) p ≡ Ok (xs ++ x ∷ [], r)
-operands_more n p q r xs x l d e = rw add-one (operands_more_suc n p q r xs x l d e)
+operands_more zero p q r xs x l d e = absurd (omega arith)
+operands_more (suc n) p q r xs x l d e = rw add-one (operands_last p n ∙ rw (d, e) refl)
 
 operands_stuck : (n k : ℕ) (b : Bool) (p q : Parsing) (xs : List Operand) → 0 < n → n < k → operands_at n p ≡ Ok (xs, q) → next_operand_at q ≡ Err b → operands_at k p ≡ Err b
-operands_stuck zero k b p q xs l m d e = absurd (omega arith)
-operands_stuck (suc n) zero b p q xs l m d e = absurd (omega arith)
-operands_stuck (suc n) (suc k) b p q xs l m d e =
-    let y = bind_ok (operand_at p) (then_further n) (xs, q) d in
-    let ys = bind_ok (further_at n y.0.1) (λ ys. Ok (y.0.0 ∷ ys.0, ys.1)) (xs, q) y.2 in
-    holds_of_same (λ (z : List Operand × Parsing). next_operand_at z.1 ≡ Err b → operands_at (suc k) p ≡ Err b) (y.0.0 ∷ ys.0.0, ys.0.1) (xs, q) ys.2
-    (λ e. operands_none_by k b p y.0.1 y.0.0 y.1 (further_stuck n k b y.0.1 ys.0.1 ys.0.0 (omega arith) ys.1 e)) e
+operands_stuck (suc n) (suc k) b p q xs l m d e = stuck (λ k. operands_at (suc k) p) (operands_last p) (k - suc n) n k b q xs (omega arith) d e
+operands_stuck _ _ b p q xs l m d e = absurd (omega arith)
 
 -- ---- an instruction of its operands
 
@@ -114,7 +91,7 @@ takes_three o n e a b c = three (shape_of o) (λ k. a (e ∙ k)) (λ k. b (e ∙
 
 pub further_fails : (n k : ℕ) (p q r : Parsing) (xs : List Operand) (e : ParseError) → n < k → further_at n p ≡ Ok (xs, q) → q.failed ≡ p.failed → q.len ≡ p.len
     → IfRefused (cause_of e) (next_operand_at q ≡ Err (at_end_of e)) × Fails e q r → IfRefused (cause_of e) (further_at k p ≡ Err (at_end_of e)) × Fails e p r
-further_fails n k p q r xs e l d f m h = (if_refused (cause_of e) (further_stuck n k (at_end_of e) p q xs l d) h.0, fails_later e p q r f m h.1)
+further_fails n k p q r xs e l d f m h = (if_refused (cause_of e) (stuck (λ k. further_at k p) (λ k. further_last k p) (k - suc n) n k (at_end_of e) q xs (omega arith) d) h.0, fails_later e p q r f m h.1)
 
 -- after n of the k operands
 pub operand_fails : (n k : ℕ) (o : Opcode) (p q r : Parsing) (xs : List Operand) (e : ParseError) → operand_count o ≡ k → 0 < n → n < k → operands_at n p ≡ Ok (xs, q) → q.failed ≡ p.failed → q.len ≡ p.len

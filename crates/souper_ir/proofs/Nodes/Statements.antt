@@ -1,7 +1,6 @@
 -- Statements, by their first token.
-use Rattle.std.proofs.Common.{◌≡◌, ℕ, Bool, true, false, List, [], Option, Ok, Err, refl, sym, ◌∙◌, subst}
+use Rattle.std.proofs.Common.{◌≡◌, ℕ, Bool, true, false, List, Option, Some, Ok, Err, refl, sym, ◌∙◌, subst}
 use Rattle.std.specs.Prelude.{codes}
-use Rattle.std.proofs.lemmas.List.{append-nil}
 use Rattle.souper_graph.specs.declared.ast.operands.«Type».{«Type» as Ty}
 use Rattle.souper_graph.specs.declared.ast.statements.Pc.{Pc}
 use Rattle.souper_graph.specs.declared.ast.statements.BlockPc.{BlockPc}
@@ -9,17 +8,19 @@ use Rattle.souper_graph.specs.Values.{PlainAttribute, PlainAssignment, PlainStat
 use Rattle.souper_errors.specs.declared.error.ParseError.{ParseError}
 use Rattle.souper_errors.specs.Errors.{at_end_of}
 use Rattle.souper_ir.specs.Parsing.{Parsing}
-use Rattle.souper_graph.specs.Syntax.Tokens.{Lexeme}
+use Rattle.souper_graph.specs.Syntax.Tokens.{Lexeme, ident}
 use Rattle.souper_graph.specs.Syntax.Spelling.{kinds, statement, attribute as attribute_form}
 use Rattle.souper_ir.specs.Continuation.{assignment_continues, pc_continues, block_pc_continues, statement_continues}
 use Rattle.souper_ir.specs.Reading.{cause_of, IfRefused, if_refused, Fails, fails_later, IsRead}
 use Rattle.souper_ir.specs.Grammar.{NextStops, Starts, Took, NoFront, Refusal, peek_at}
 use Rattle.souper_ir.specs.Laws.Unique.{clash_at}
 use Rattle.souper_ir.specs.Laws.Peeks.{peeked, peeked_yes, peeked_no, none_if_unread}
-use Rattle.souper_ir.specs.NodeReadings.{is_name, is_word, rhs_at, Definition, heading_at, definition_at, pc_at, block_pc_at}
+use Rattle.souper_ir.specs.NodeReadings.{is_word, rhs_at, Definition, heading_at, definition_at, pc_at, block_pc_at}
 use Rattle.souper_ir.specs.Laws.FromReadings.{is_taken, is_refused}
 use Rattle.souper_ir.specs.Laws.Attributed.{Row, OneMore}
-use Rattle.souper_ir.specs.Laws.Statements.{definition_rule, assignment_laws, assignment_first, pc_rule, pc_first, block_pc_rule, block_pc_first, name_no_word, pc_no_block_pc, two_starts}
+use Rattle.souper_ir.specs.Laws.Tokens.{word_first}
+use Rattle.souper_ir.specs.Laws.Statements.{definition_rule, assignment_laws, pc_rule, block_pc_rule, next_by_word, kind, statement_kind}
+use Rattle.souper_ir.specs.NextStatement.{next_statement_of}
 
 abbrev pub Refuses : ParseError → Parsing → Parsing → Type 0
 Refuses e p q = Refusal statement statement_continues e p q
@@ -40,11 +41,10 @@ peek_refused starts e p q h = record { failed = h.1; nothing = none_if_unread st
 -- ---- the word of a path condition comes
 
 pc_none : (p : Parsing) → Starts (is_word (codes "pc")) (kinds p.tokens) → NoFront (λ s v. statement s (condition v)) pc_continues p → NoFront statement statement_continues p
-pc_none p st none (assigned a) front rest e s stops =
-    two_starts is_name (is_word (codes "pc")) front (kinds p.tokens) rest [] (name_no_word (codes "pc")) (assignment_first p.scope a front s) st (sym e ∙ sym (append-nil (kinds p.tokens)))
 pc_none p st none (condition v) front rest e s stops = none v front rest e s stops
-pc_none p st none (block_condition v) front rest e s stops =
-    two_starts (is_word (codes "pc")) (is_word (codes "blockpc")) (kinds p.tokens) front [] rest pc_no_block_pc st (block_pc_first p.scope v front s) (append-nil (kinds p.tokens) ∙ e)
+pc_none p st none v front rest e s stops =
+    let same : next_statement_of (Some (ident (codes "pc"))) ≡ kind v = sym (next_by_word (codes "pc") (kinds p.tokens) st) ∙ statement_kind p.scope v front rest (kinds p.tokens) s e in
+    cc
 
 pub pc_taken : (v : Pc) (p q r : Parsing) → IsRead (peek_at (is_word (codes "pc")) p) true p q → IsRead (pc_at q) v q r → Takes_it (condition v) p r
 pc_taken v p q r h k =
@@ -61,11 +61,10 @@ pc_refused e p q r h k =
 -- ---- the word of a condition on a predecessor comes
 
 block_pc_none : (p : Parsing) → Starts (is_word (codes "blockpc")) (kinds p.tokens) → NoFront (λ s v. statement s (block_condition v)) block_pc_continues p → NoFront statement statement_continues p
-block_pc_none p st none (assigned a) front rest e s stops =
-    two_starts is_name (is_word (codes "blockpc")) front (kinds p.tokens) rest [] (name_no_word (codes "blockpc")) (assignment_first p.scope a front s) st (sym e ∙ sym (append-nil (kinds p.tokens)))
-block_pc_none p st none (condition v) front rest e s stops =
-    two_starts (is_word (codes "pc")) (is_word (codes "blockpc")) front (kinds p.tokens) rest [] pc_no_block_pc (pc_first p.scope v front s) st (sym e ∙ sym (append-nil (kinds p.tokens)))
 block_pc_none p st none (block_condition v) front rest e s stops = none v front rest e s stops
+block_pc_none p st none v front rest e s stops =
+    let same : next_statement_of (Some (ident (codes "blockpc"))) ≡ kind v = sym (next_by_word (codes "blockpc") (kinds p.tokens) st) ∙ statement_kind p.scope v front rest (kinds p.tokens) s e in
+    cc
 
 pub block_pc_taken : (v : BlockPc) (p q r : Parsing) → IsRead (peek_at (is_word (codes "blockpc")) p) true p q → IsRead (block_pc_at q) v q r → Takes_it (block_condition v) p r
 block_pc_taken v p q r h k =
@@ -125,8 +124,8 @@ passed P k p q h x = subst P (peeked (is_word k) p q false h.0).0 x
 other_none : (p : Parsing) → NextStops (λ t. is_word (codes "pc") t ≡ true) p.faulty (kinds p.tokens) → NextStops (λ t. is_word (codes "blockpc") t ≡ true) p.faulty (kinds p.tokens)
     → NoFront (λ s a. statement s (assigned a)) assignment_continues p → NoFront statement statement_continues p
 other_none p no_pc no_block_pc none (assigned a) front rest e s stops = none a front rest e s stops
-other_none p no_pc no_block_pc none (condition v) front rest e s stops = clash_at (is_word (codes "pc")) p.faulty front (kinds p.tokens) rest (pc_first p.scope v front s) e no_pc
-other_none p no_pc no_block_pc none (block_condition v) front rest e s stops = clash_at (is_word (codes "blockpc")) p.faulty front (kinds p.tokens) rest (block_pc_first p.scope v front s) e no_block_pc
+other_none p no_pc no_block_pc none (condition v) front rest e s stops = clash_at (is_word (codes "pc")) p.faulty front (kinds p.tokens) rest (word_first (codes "pc") front s) e no_pc
+other_none p no_pc no_block_pc none (block_condition v) front rest e s stops = clash_at (is_word (codes "blockpc")) p.faulty front (kinds p.tokens) rest (word_first (codes "blockpc") front s) e no_block_pc
 
 pub assignment_taken : (a : PlainAssignment) (p q r t : Parsing) → IsRead (peek_at (is_word (codes "pc")) p) false p q → IsRead (peek_at (is_word (codes "blockpc")) q) false q r
     → TakesAssignment a r t → Takes_it (assigned a) p t

@@ -1,5 +1,5 @@
 -- The names of a scope, as it grows.
-use Rattle.std.proofs.Common.{◌≡◌, ℕ, zero, suc, ◌+◌, Bool, true, false, List, [], ◌∷◌, ◌++◌, length, Option, Some, None, Ok, Err, refl, sym, ◌∙◌, ap, subst, arith}
+use Rattle.std.proofs.Common.{◌≡◌, ℕ, zero, suc, ◌+◌, Bool, true, false, List, [], ◌∷◌, ◌++◌, length, Option, Some, None, Err, refl, sym, ◌∙◌, ap, subst, arith}
 use Rattle.std.specs.Prelude.{bytes_eq, is_some, option_map, slice_get, if◌then◌else◌}
 use Rattle.std.specs.Borrow.{Bor}
 use Rattle.std.specs.BTreeMap.{UpdatesBy}
@@ -7,7 +7,7 @@ use Rattle.std.specs.Cmp.Lexicographic.{slice_cmp}
 use Rattle.std.specs.Ordering.{nat_cmp}
 use Rattle.std.proofs.lemmas.Slice.Eq.{bytes_eq-Decides}
 use Rattle.std.proofs.lemmas.Map.Text.{btree_map_updates_str}
-use Rattle.souper_graph.specs.Values.{PlainAssignment, PlainStatement, assigned, condition, block_condition}
+use Rattle.souper_graph.specs.Values.{PlainAssignment, PlainStatement, assigned}
 use Rattle.souper_graph.specs.Uses.{is_condition}
 use Rattle.souper_graph.specs.Syntax.Spelling.{Scope, predecessors_if_block, entry_of, position_of}
 use Rattle.souper_ir.specs.declared.parse.parser.Failure.{Failure}
@@ -17,6 +17,7 @@ use Rattle.souper_ir.specs.declared.parse.names.Names.{Names}
 use Rattle.souper_names.specs.TableView.{NameEntry, or_else, last_entry}
 use Rattle.souper_ir.specs.NodeReadings.{new_name_at}
 use Rattle.souper_ir.specs.Parsing.{Parsing}
+use Rattle.souper_ir.specs.Reading.{IsRead}
 use Rattle.souper_ir.proofs.Scope.Names.{no_entry, entry_push, entry_pass}
 use Rattle.souper_ir.proofs.Scope.Growing.{entry_stands, named_push, named_pass}
 use Rattle.souper_names.proofs.Tables.{adds}
@@ -39,9 +40,7 @@ stands s i n h = by_statement (slice_get s i) refl h
   where
     by_statement : (o : Option PlainStatement) → slice_get s i ≡ o → defines_name o n ≡ true → Stands s i n
     by_statement (Some (assigned a)) e d = (a, e, (bytes_eq-Decides a.name n).0 d)
-    by_statement (Some (condition p)) e d = absurd cc
-    by_statement (Some (block_condition p)) e d = absurd cc
-    by_statement None e d = absurd cc
+    by_statement _ e d = absurd cc
 
 -- the position of a name, if the statement there defines it
 pub position_is : (s : Scope) (i : ℕ) (n : List ℕ) → Named s → is_named s i n ≡ true → Some i ≡ position_of s n
@@ -118,9 +117,11 @@ is_new_in_table names s n None are empty is h =
     ap (λ (o : Option NameEntry). option_map (λ (x : NameEntry). x.0) o) (sym (found_in_map names s n are is)
     ∙ ap (λ (o : Option NameEntry). entry_in_scope s o n) (let none : entry_in_map names.entries n ≡ None = rw empty refl in none))
 
-pub begun : (n : List ℕ) (p : Parsing) → position_of p.scope n ≡ None → new_name_at n p ≡ Ok (tt, p)
+pub begun : (n : List ℕ) (p q : Parsing) → p ≡ q → q.failed ≡ None → position_of p.scope n ≡ None → IsRead (new_name_at n q) tt q p
 unfolding new_name_at
-begun n p h = rw h refl
+begun n p q is live h =
+    let here : p.failed ≡ None = subst (λ (x : Parsing). x.failed ≡ None) (sym is) live in
+    subst (λ (x : Parsing). IsRead (new_name_at n x) tt x p) is (rw h refl, here, here, refl)
 
 pub not_begun : (n : List ℕ) (p : Parsing) (i : ℕ) (ended : Bool) → position_of p.scope n ≡ Some i → ended ≡ false → new_name_at n p ≡ Err ended
 unfolding new_name_at
@@ -217,8 +218,7 @@ begin_in_map old new s n are fresh empty added last = record {
 -- one more path condition
 names_none : (x : PlainStatement) (n : List ℕ) → is_condition x ≡ true → defines_name (Some x) n ≡ false
 names_none (assigned a) n c = absurd cc
-names_none (condition p) n c = refl
-names_none (block_condition p) n c = refl
+names_none _ n c = refl
 
 pub names_pass : (names : Names) (s : Scope) (x : PlainStatement) → AreNames names s → is_condition x ≡ true → AreNames names (s ++ x ∷ [])
 names_pass names s x are c = record {

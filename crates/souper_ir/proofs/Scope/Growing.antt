@@ -2,7 +2,7 @@
 use Rattle.std.proofs.Common.{◌≡◌, ◌⊎◌, ℕ, zero, suc, ◌+◌, ◌<◌, Bool, true, false, List, [], ◌∷◌, ◌++◌, length, Option, Some, None, refl, sym, ◌∙◌, ap, subst, inl, inr, arith}
 use Rattle.std.specs.Prelude.{bytes_eq, option_map, slice_get, if◌then◌else◌}
 use Rattle.std.proofs.lemmas.Slice.Eq.{bytes_eq-Decides}
-use Rattle.souper_graph.specs.Values.{PlainRhs, var, block, phi, reserved_inst, reserved_const, instruction, PlainAssignment, PlainStatement, assigned, condition, block_condition}
+use Rattle.souper_graph.specs.Values.{PlainRhs, block, phi, PlainAssignment, PlainStatement, assigned, condition, block_condition}
 use Rattle.souper_graph.specs.Uses.{Has, Use, value_use, block_use, position_of as position_used, is_condition, uses_of_rhs, uses_of}
 use Rattle.souper_graph.specs.WellFormed.{predecessors_of_rhs, predecessors_of, AgreesRhs, AgreesWithBlock, Closed, IsAssigned, IsBlockRhs, IsBlock, IsMet, AreMet}
 use Rattle.souper_graph.specs.Syntax.Spelling.{Scope, predecessors_if_block, entry_from, entry_of, position_of}
@@ -35,8 +35,7 @@ found_if false k a s n more e named behind h = later k (assigned a) s n e (behin
 found_from : (k : ℕ) (s : Scope) (n : List ℕ) (e : ℕ × Option ℕ) → entry_from k s n ≡ Some e → FoundFrom k s n e
 found_from k [] n e h = absurd cc
 found_from k (assigned a ∷ s) n e h = found_if (bytes_eq a.name n) k a s n (entry_from (suc k) s n) e refl (found_from (suc k) s n e) h
-found_from k (condition p ∷ s) n e h = later k (condition p) s n e (found_from (suc k) s n e h)
-found_from k (block_condition p ∷ s) n e h = later k (block_condition p) s n e (found_from (suc k) s n e h)
+found_from k (x ∷ s) n e h = later k x s n e (found_from (suc k) s n e h)
 
 -- the statement at the entry of a name
 pub entry_stands : (s : Scope) (n : List ℕ) (i : ℕ) (predecessors : Option ℕ) → entry_of s n ≡ Some (i, predecessors) → StandsWith s n i predecessors
@@ -115,12 +114,8 @@ value_reaches s n i e =
     (get_in s i (assigned r.1.0) r.1.1, subst IsAssigned (sym r.1.1) tt)
 
 predecessors_are : (v : PlainRhs) (n : ℕ) → predecessors_if_block v ≡ Some n → IsBlockRhs v × (n ≡ predecessors_of_rhs v)
-predecessors_are var n e = absurd cc
 predecessors_are (block b) n e = (tt, cc)
-predecessors_are (phi p) n e = absurd cc
-predecessors_are reserved_inst n e = absurd cc
-predecessors_are reserved_const n e = absurd cc
-predecessors_are (instruction i) n e = absurd cc
+predecessors_are _ n e = absurd cc
 
 -- the block of a name, and its number of predecessors
 pub block_reaches : (s : Scope) (n : List ℕ) (i predecessors : ℕ) → entry_of s n ≡ Some (i, Some predecessors) → Reaches s (block_use i) × (predecessors ≡ predecessors_of (slice_get s i))
@@ -144,12 +139,8 @@ agrees_kept : (s more : Scope) (v : PlainStatement) → AreMet s (uses_of v) →
 agrees_kept s more (assigned a) met h = by_value a.value met h
   where
     by_value : (v : PlainRhs) → AreMet s (uses_of_rhs v) → AgreesRhs s v → AgreesRhs (s ++ more) v
-    by_value var met h = tt
-    by_value (block b) met h = tt
     by_value (phi p) met h = (kept (λ o. IsBlock o × (length p.values ≡ predecessors_of o)) (λ x. x.0) s more p.block (met (block_use p.block) (inl refl), h)).1
-    by_value reserved_inst met h = tt
-    by_value reserved_const met h = tt
-    by_value (instruction i) met h = tt
+    by_value _ met h = tt
 agrees_kept s more (condition p) met h = tt
 agrees_kept s more (block_condition p) met h = (kept (λ o. IsBlock o × (p.predecessor < predecessors_of o)) (λ x. x.0) s more p.block (met (block_use p.block) (inl refl), h)).1
 

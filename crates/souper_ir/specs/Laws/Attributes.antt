@@ -11,14 +11,14 @@ use Rattle.souper_ir.specs.Reading.{◌>>=◌}
 use Rattle.souper_ir.specs.declared.parse.attributes.RootKind.{RootKind}
 use Rattle.souper_ir.specs.declared.parse.attributes.RootKind.TheVariants.{DemandedBits, HarvestedFromUse}
 use Rattle.souper_ir.specs.Grammar.{NextStops, Starts, Members, LastGoesOn, ListGoesOn}
-use Rattle.souper_ir.specs.NodeReadings.{accept, as_mark, is_mark, ident_by, AttributeKind, plain_kind, bits_kind, sign_bits_kind, range_kind, attribute_kind_of_word, attribute_kind_of, attribute_by, attribute_at, root_kind_of_word, root_attribute_by, root_attribute_at}
+use Rattle.souper_ir.specs.NodeReadings.{accept, as_mark, is_mark, int_by, ident_by, AttributeKind, plain_kind, bits_kind, sign_bits_kind, range_kind, attribute_kind_of_word, attribute_kind_of, attribute_by, attribute_at, root_kind_of_word, root_attribute_by, root_attribute_at}
 use Rattle.souper_ir.specs.Laws.Unique.{never}
 use Rattle.souper_ir.specs.Laws.Peeks.{some_is}
 use Rattle.souper_ir.specs.Laws.Steps.{Takes-then, At, bind_ok, state_then}
-use Rattle.souper_ir.specs.Laws.Tokens.{is_mark_means, by_word, ident_means}
+use Rattle.souper_ir.specs.Laws.Tokens.{is_mark_means, by_word}
+use Rattle.souper_ir.specs.Laws.Words.{named}
 use Rattle.souper_ir.specs.Laws.Next.{accepted, accepts}
-use Rattle.souper_ir.specs.Laws.Rules.{FormOf, ReadingOf, Rule, Any, Never, reread, regrouped, given, done, mark, int_read, first, after, last, with_nothing, without_nothing, node}
-use Rattle.souper_ir.specs.Laws.FromReadings.{Complete, completes}
+use Rattle.souper_ir.specs.Laws.Rules.{FormOf, ReadingOf, Rule, Any, Never, reread, regrouped, given, done, mark, int_read, first, after, last, with_nothing, without_nothing, reformed, worded, ident_read}
 
 -- ---- between parentheses
 
@@ -92,9 +92,9 @@ rest_of sign_bits_kind x = token equals · one int (count_of (2 ^ 8)) (sign_bits
 rest_of range_kind x = token equals · token open_bracket · one int number_of (low_in x) · token comma · one int number_of (high_in x) · token close_paren
 
 attribute_by_rule : (k : AttributeKind) → Rule (OfKind k) (λ s. rest_of k) Never (attribute_by k)
-attribute_by_rule (plain_kind a) = done a refl (λ x i. i)
+attribute_by_rule (plain_kind a) = done a refl (λ x i. i) (λ s ts h. h) (λ s. refl) (λ t h. h)
 attribute_by_rule (bits_kind w) =
-    given (known_bits_of w) (λ x i. (i.0, i.2)) (λ bits e. done (known_bits_attribute bits) (bits, refl, e) (λ x i. i.1 ∙ ap known_bits_attribute (some_is (sym i.2 ∙ e))))
+    given (known_bits_of w) (λ x i. (i.0, i.2)) (λ bits e. done (known_bits_attribute bits) (bits, refl, e) (λ x i. i.1 ∙ ap known_bits_attribute (some_is (sym i.2 ∙ e))) (λ s ts h. h) (λ s. refl) (λ t h. h))
 attribute_by_rule sign_bits_kind = after (mark equals refl) (last sign_bits (λ n i. (n, refl)) (λ x i. (i.0, tt, i.1)) (int_read (count_of (2 ^ 8))))
 attribute_by_rule range_kind =
     after (mark equals refl) (after (mark open_bracket refl) (
@@ -137,10 +137,8 @@ Inside x = Begun attribute_kind_of OfKind rest_of x
 begun : (k : AttributeKind) (x : PlainAttribute) (t : Lexeme) (ts : List Lexeme) (h : enclosed (Inside x) ts) → KindIs k t → OfKind k x → (token t · rest_of k x) h.second.prefix → attribute x ts
 begun (plain_kind a) x t ts h is i j = rw (i, enclosed_alone t ts h (without_nothing (token t) h.second.prefix j)) is
 begun (bits_kind w) x t ts h is i j = rw i.1 (within (one known_bits known_bits_of i.0) ts h (w, without_nothing (token t) h.second.prefix j ∙ ap (λ (z : Lexeme). z ∷ []) is, i.2))
-begun sign_bits_kind x t ts h is i j = subst (λ (z : PlainAttribute). attribute z ts) (sym i.1)
-    (within (word (codes "signBits") · rest_of sign_bits_kind (sign_bits i.0)) ts h (subst (λ (z : PlainAttribute). (word (codes "signBits") · rest_of sign_bits_kind z) h.second.prefix) i.1 (subst (λ (z : Lexeme). (token z · rest_of sign_bits_kind x) h.second.prefix) is j)))
-begun range_kind x t ts h is i j = subst (λ (z : PlainAttribute). attribute z ts) (sym i.2)
-    (within (word (codes "range") · rest_of range_kind (range i.0 i.1)) ts h (subst (λ (z : PlainAttribute). (word (codes "range") · rest_of range_kind z) h.second.prefix) i.2 (subst (λ (z : Lexeme). (token z · rest_of range_kind x) h.second.prefix) is j)))
+begun sign_bits_kind x t ts h is i j = rw i.1 (within _ ts h (rw (is, i.1) at j))
+begun range_kind x t ts h is i j = rw i.2 (within _ ts h (rw (is, i.2) at j))
 
 apart_plain : (x : PlainAttribute) (w : List ℕ) → attribute_kind_of (ident w) ≡ Some (plain_kind x) → (ts : List Lexeme) → enclosed (word w) ts → enclosed (Inside x) ts
 apart_plain x w e ts h = within (Inside x) ts h (plain_kind x, refl, ident w, e, with_nothing (word w) h.second.prefix h.second.first)
@@ -157,69 +155,58 @@ apart (range low high) ts h = within (Inside (range low high)) ts h (range_kind,
 
 pub attribute_rule : Rule Any (λ s. attribute) Never attribute_at
 unfolding attribute_at
-attribute_rule = node (enclosed_rule attribute_kind_of attribute_by (tabled attribute_kind_of OfKind rest_of attribute_by_rule))
-    (λ s x ts h. let (k, i, t, e, j) = h.second.first in begun k x t ts h (kind_means t k e) i j)
-    (λ s. apart)
-
-pub attribute_complete : Complete (λ s. attribute) Never attribute_at
-attribute_complete = completes attribute_rule
+attribute_rule = reformed
+    (λ s x ts u h. let (k, i, t, e, j) = h.second.first in (u, begun k x t ts h (kind_means t k e) i j))
+    (λ s x ts u h. (u, apart x ts h))
+    (enclosed_rule attribute_kind_of attribute_by (tabled attribute_kind_of OfKind rest_of attribute_by_rule))
 
 pub attribute_first : (s : Scope) (a : PlainAttribute) (ts : List Lexeme) → attribute a ts → Starts (is_mark open_paren) ts
 attribute_first s a ts h = let k = apart a ts h in rw (k.whole, k.first) refl
 
 -- ---- root attributes
 
-abbrev OfRootKind : RootKind → PlainRootAttribute → Type 0
-OfRootKind DemandedBits x = (bits : List Bool) × (x ≡ demanded_bits bits)
-OfRootKind HarvestedFromUse x = x ≡ harvested_from_use
+abbrev root_kind : PlainRootAttribute → RootKind
+root_kind (demanded_bits bits) = DemandedBits
+root_kind harvested_from_use = HarvestedFromUse
 
-abbrev bits_in : PlainRootAttribute → List Bool
-bits_in (demanded_bits bits) = bits
-bits_in harvested_from_use = []
+abbrev root_word : RootKind → List ℕ
+root_word DemandedBits = codes "demandedBits"
+root_word HarvestedFromUse = codes "harvestedFromUse"
 
-abbrev root_rest_of : RootKind → PlainRootAttribute → Form
-root_rest_of DemandedBits x = token equals · one int bits_of (bits_in x)
-root_rest_of HarvestedFromUse x = nothing
+root_word_is : (k : RootKind) → root_kind_of_word (root_word k) ≡ Some k
+root_word_is DemandedBits = refl
+root_word_is HarvestedFromUse = refl
 
-root_attribute_by_rule : (k : RootKind) → Rule (OfRootKind k) (λ s. root_rest_of k) Never (root_attribute_by k)
-root_attribute_by_rule HarvestedFromUse = done harvested_from_use refl (λ x i. i)
-root_attribute_by_rule DemandedBits = after (mark equals refl) (last demanded_bits (λ bits i. (bits, refl)) (λ x i. (i.0, tt, i.1)) (int_read bits_of))
+-- what comes after the word
+abbrev root_rest : PlainRootAttribute → Form
+root_rest (demanded_bits bits) = token equals · one int bits_of bits
+root_rest harvested_from_use = nothing
 
--- the token begins a root attribute of the kind
-abbrev RootKindIs : RootKind → Lexeme → Type 0
-RootKindIs DemandedBits t = t ≡ ident (codes "demandedBits")
-RootKindIs HarvestedFromUse t = t ≡ ident (codes "harvestedFromUse")
+bits_behind : (x : PlainRootAttribute) → Any x × (root_kind x ≡ DemandedBits) → (bits : List Bool) × Any bits × (x ≡ demanded_bits bits)
+bits_behind (demanded_bits bits) i = (bits, tt, refl)
+bits_behind harvested_from_use i = let e = i.1 in absurd cc
 
-root_word_means : (w : List ℕ) (k : RootKind) → root_kind_of_word w ≡ Some k → RootKindIs k (ident w)
-root_word_means w k e =
-    by_word (λ w k. RootKindIs k (ident w)) w (codes "demandedBits") DemandedBits k _ e refl (λ e.
-    by_word (λ w k. RootKindIs k (ident w)) w (codes "harvestedFromUse") HarvestedFromUse k _ e refl (λ e. absurd cc))
+alone_behind : (x : PlainRootAttribute) → Any x × (root_kind x ≡ HarvestedFromUse) → x ≡ harvested_from_use
+alone_behind harvested_from_use i = refl
+alone_behind (demanded_bits bits) i = let e = i.1 in absurd cc
 
-root_kind_means : (t : Lexeme) (k : RootKind) → ident_by root_kind_of_word t ≡ Some k → RootKindIs k t
-root_kind_means t k e =
-    let w = ident_means root_kind_of_word t k e in
-    subst (λ (x : Lexeme). RootKindIs k x) (sym w.1) (root_word_means w.0 k w.2)
+root_attribute_by_rule : (k : RootKind) → Rule (λ x. Any x × (root_kind x ≡ k)) (λ s. root_rest) Never (root_attribute_by k)
+root_attribute_by_rule HarvestedFromUse = done harvested_from_use (tt, refl) alone_behind (λ s ts h. h) (λ s. refl) (λ t h. h)
+root_attribute_by_rule DemandedBits = reread _ (λ p. regrouped (accept (as_mark equals) p) (λ e. accept (int_by bits_of) e.1) (λ bits. Ok (demanded_bits bits.0, bits.1)))
+    (last demanded_bits (λ bits i. (tt, refl)) bits_behind (after (mark equals refl) (int_read bits_of)))
 
-abbrev RootInside : PlainRootAttribute → Form
-RootInside x = Begun (ident_by root_kind_of_word) OfRootKind root_rest_of x
+root_inside : (x : PlainRootAttribute) (ts : List Lexeme) → enclosed (word (root_word (root_kind x)) · root_rest x) ts → root_attribute x ts
+root_inside (demanded_bits bits) ts h = h
+root_inside harvested_from_use ts h = within (word (codes "harvestedFromUse")) ts h (without_nothing (word (codes "harvestedFromUse")) h.second.prefix h.second.first)
 
-root_begun : (k : RootKind) (x : PlainRootAttribute) (t : Lexeme) (ts : List Lexeme) (h : enclosed (RootInside x) ts) → RootKindIs k t → OfRootKind k x → (token t · root_rest_of k x) h.second.prefix → root_attribute x ts
-root_begun DemandedBits x t ts h is i j = subst (λ (z : PlainRootAttribute). root_attribute z ts) (sym i.1)
-    (within (word (codes "demandedBits") · root_rest_of DemandedBits (demanded_bits i.0)) ts h (subst (λ (z : PlainRootAttribute). (word (codes "demandedBits") · root_rest_of DemandedBits z) h.second.prefix) i.1 (subst (λ (z : Lexeme). (token z · root_rest_of DemandedBits x) h.second.prefix) is j)))
-root_begun HarvestedFromUse x t ts h is i j = rw i (within (word (codes "harvestedFromUse")) ts h (without_nothing (token t) h.second.prefix j ∙ ap (λ (z : Lexeme). z ∷ []) is))
-
-root_apart : (x : PlainRootAttribute) (ts : List Lexeme) → root_attribute x ts → enclosed (RootInside x) ts
-root_apart (demanded_bits bits) ts h = within (RootInside (demanded_bits bits)) ts h (DemandedBits, (bits, refl), ident (codes "demandedBits"), refl, h.second.first)
-root_apart harvested_from_use ts h = within (RootInside harvested_from_use) ts h (HarvestedFromUse, refl, ident (codes "harvestedFromUse"), refl, with_nothing (word (codes "harvestedFromUse")) h.second.prefix h.second.first)
+root_apart : (x : PlainRootAttribute) (ts : List Lexeme) → root_attribute x ts → enclosed (word (root_word (root_kind x)) · root_rest x) ts
+root_apart (demanded_bits bits) ts h = h
+root_apart harvested_from_use ts h = within (word (codes "harvestedFromUse") · nothing) ts h (with_nothing (word (codes "harvestedFromUse")) h.second.prefix h.second.first)
 
 pub root_attribute_rule : Rule Any (λ s. root_attribute) Never root_attribute_at
 unfolding root_attribute_at
-root_attribute_rule = node (enclosed_rule (ident_by root_kind_of_word) root_attribute_by (tabled (ident_by root_kind_of_word) OfRootKind root_rest_of root_attribute_by_rule))
-    (λ s x ts h. let (k, i, t, e, j) = h.second.first in root_begun k x t ts h (root_kind_means t k e) i j)
-    (λ s. root_apart)
-
-pub root_attribute_complete : Complete (λ s. root_attribute) Never root_attribute_at
-root_attribute_complete = completes root_attribute_rule
+root_attribute_rule = reformed (λ s x ts u h. (u, root_inside x ts h)) (λ s x ts u h. (u, root_apart x ts h)) (enclosed_rule (ident_by root_kind_of_word) root_attribute_by
+    (worded root_kind_of_word (λ x. root_word (root_kind x)) root_kind (λ x. root_word_is (root_kind x)) (λ w x e. named root_word (DemandedBits ∷ HarvestedFromUse ∷ []) w (root_kind x) e) (ident_read root_kind_of_word) root_attribute_by_rule))
 
 pub root_attribute_first : (s : Scope) (a : PlainRootAttribute) (ts : List Lexeme) → root_attribute a ts → Starts (is_mark open_paren) ts
 root_attribute_first s a ts h = let k = root_apart a ts h in rw (k.whole, k.first) refl

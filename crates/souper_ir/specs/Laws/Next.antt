@@ -4,7 +4,7 @@ use Rattle.souper_graph.specs.Syntax.Tokens.{Lexeme}
 use Rattle.souper_graph.specs.Syntax.Spelling.{kinds}
 use Rattle.souper_ir.specs.Parsing.{Cause, Parsing}
 use Rattle.souper_ir.specs.Reading.{◌>>=◌, looked_up, take_in, take_at}
-use Rattle.souper_ir.specs.Grammar.{Free, NextStops, Starts, peek_at}
+use Rattle.souper_ir.specs.Grammar.{NextStops, Starts, peek_at}
 use Rattle.souper_ir.specs.NodeReadings.{accept}
 use Rattle.souper_ir.specs.Laws.Peeks.{ok_is, Answers, answered}
 use Rattle.souper_ir.specs.Laws.Steps.{TakesTokens, At, bind_ok, up_ok}
@@ -72,10 +72,6 @@ sees starts p ts at h = answered starts p true at.live (answers_yes starts p.fau
 
 pub sees_none : (starts : Lexeme → Bool) (p : Parsing) (ts : List Lexeme) → At p ts → NextStops (λ t. starts t ≡ true) p.faulty ts → peek_at starts p ≡ Ok (false, p)
 sees_none starts p ts at h = answered starts p false at.live (answers_no starts p.faulty p.tokens (subst (NextStops (λ t. starts t ≡ true) p.faulty) (sym at.kinds_are) h))
-
-pub seen_none : (starts : Lexeme → Bool) (faulty : Bool) (ts : List (ℕ × Lexeme)) → Answers starts false faulty ts → Free (λ t. starts t ≡ true) (kinds ts)
-seen_none starts faulty [] h = tt
-seen_none starts faulty (t ∷ ts) h = λ y. let e : true ≡ false = sym y ∙ h in absurd cc
 
 -- the first token is a start, or it is none
 abbrev pub Shows : (Lexeme → Bool) → Bool → List Lexeme → Type 0

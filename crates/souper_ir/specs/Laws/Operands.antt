@@ -1,6 +1,7 @@
 -- Lemmas. The rules of types, constants and operands: a value is read if and only if the tokens have its form.
-use Rattle.std.proofs.Common.{◌≡◌, ℕ, suc, zero, Bool, true, false, List, [], ◌∷◌, ◌++◌, length, Option, Some, None, Ok, refl, ◌∙◌, ap, subst}
+use Rattle.std.proofs.Common.{◌≡◌, ℕ, suc, zero, Bool, true, false, List, [], ◌∷◌, ◌++◌, length, Option, Some, None, Ok, Err, refl, sym, arith, ◌∙◌, ap, subst}
 use Rattle.std.specs.Prelude.{is_some}
+use Rattle.std.proofs.lemmas.List.{nil_from_length}
 use Rattle.souper_graph.specs.declared.ast.operands.«Type».{«Type» as Ty}
 use Rattle.souper_graph.specs.declared.ast.operands.Constant.{Constant}
 use Rattle.souper_graph.specs.declared.ast.operands.Operand.{Operand}
@@ -8,7 +9,8 @@ use Rattle.souper_graph.specs.declared.ast.operands.Operand.TheVariants.{Value, 
 use Rattle.souper_graph.specs.Syntax.Tokens.{Lexeme, val_name, int, comma, colon}
 use Rattle.souper_graph.specs.Syntax.Numbers.{number_of, width_of}
 use Rattle.souper_graph.specs.Syntax.Spelling.{Scope, position_of, ◌·◌, token, optional, type, of_type, constant, operand, further, operands}
-use Rattle.souper_ir.specs.Reading.{◌>>=◌}
+use Rattle.souper_ir.specs.Parsing.{Parsing}
+use Rattle.souper_ir.specs.Reading.{Reads, ◌>>=◌}
 use Rattle.souper_ir.specs.Continuation.{optional_type_continues, constant_continues, operand_continues, operands_continue}
 use Rattle.souper_ir.specs.Grammar.{Free, NextStops, Starts}
 use Rattle.souper_ir.specs.NodeReadings.{accept, is_name, as_mark, is_mark, is_int, type_of_word, type_at, optional_type_by, optional_type_at, constant_at, operand_by, operand_at, next_operand_at, further_at, operands_at}
@@ -16,8 +18,7 @@ use Rattle.souper_ir.specs.Laws.Peeks.{some_is}
 use Rattle.souper_ir.specs.Laws.Steps.{bind_some}
 use Rattle.souper_ir.specs.Laws.Tokens.{is_mark_means}
 use Rattle.souper_ir.specs.Laws.Next.{Shows}
-use Rattle.souper_ir.specs.Laws.Rules.{Rule, Any, Never, reread, regrouped, reformed, mark, int_read, ident_read, name_read, by_name, first, after, last, optional_rule, either_rule, none, more}
-use Rattle.souper_ir.specs.Laws.FromReadings.{Complete, completes}
+use Rattle.souper_ir.specs.Laws.Rules.{Rule, Any, Never, reread, regrouped, reformed, mark, int_read, ident_read, name_read, by_name, first, after, last, done, joined_to, optional_rule, either_rule, FormOf, ReadingOf}
 
 -- ---- types
 
@@ -27,20 +28,15 @@ type_of_word_means w t e =
     let same : ◌≡◌ {A = Ty} (record { width = n.0 }) t = some_is n.2 in
     n.1 ∙ ap (λ (x : Ty). Some x.width) same
 
-type_of_word_is : (w : List ℕ) (t : Ty) → width_of w ≡ Some t.width → type_of_word w ≡ Some t
-type_of_word_is w t e = rw e refl
-
 pub type_rule : Rule Any (λ s. type) Never type_at
-type_rule = reformed (λ s t ts i h. (h.0, h.1, type_of_word_means h.0 t h.2)) (λ s t ts i h. (h.0, h.1, type_of_word_is h.0 t h.2)) (ident_read type_of_word)
-
-pub type_complete : Complete (λ s. type) Never type_at
-type_complete = completes type_rule
+type_rule = reformed (λ s t ts i h. (i, (h.0, h.1, type_of_word_means h.0 t h.2))) (λ s t ts i h. (i, (h.0, h.1, rw h.2 refl))) (ident_read type_of_word)
 
 -- ---- a type after a colon
 
-pub optional_type_stops : (o : Option Ty) (t : Lexeme) → ¬ (t ≡ colon) → ¬ optional_type_continues o t
-optional_type_stops None t h = h
-optional_type_stops (Some ty) t h = λ x. x
+-- a colon alone continues a value that may lack its type
+pub optional_type_more : (o : Option Ty) (t : Lexeme) → optional_type_continues o t → t ≡ colon
+optional_type_more None t h = h
+optional_type_more (Some ty) t h = absurd h
 
 of_type_starts : (s : Scope) (t : Ty) (ts : List Lexeme) → of_type t ts → Starts (is_mark colon) ts
 of_type_starts s t ts h = rw (h.whole, h.first) refl
@@ -66,9 +62,6 @@ constant_rule =
 
 pub constant_first : (s : Scope) (c : Constant) (ts : List Lexeme) → constant c ts → Starts is_int ts
 constant_first s c ts h = rw (h.whole, h.first.1) refl
-
-pub constant_complete : Complete (λ s. constant) constant_continues constant_at
-constant_complete = completes constant_rule
 
 -- ---- operands
 
@@ -96,25 +89,21 @@ pub operand_rule : Rule Any operand operand_continues operand_at
 unfolding operand_at
 operand_rule = either_rule is_name is_value operand_shows operand_by_rule
 
-pub operand_complete : Complete operand operand_continues operand_at
-operand_complete = completes operand_rule
-
--- a constant without a type stops at a token that is no `:`, and every other operand stops anyway
-pub operand_stops : (x : Operand) (t : Lexeme) → ¬ (t ≡ colon) → ¬ operand_continues x t
-operand_stops (Value i) t h = λ y. y
-operand_stops (constant_variant c) t h = optional_type_stops c.ty t h
+pub operand_more : (x : Operand) (t : Lexeme) → operand_continues x t → t ≡ colon
+operand_more (Value i) t h = absurd h
+operand_more (constant_variant c) t h = optional_type_more c.ty t h
 
 -- an operand does not continue the one before it
 pub operand_over : (x y : Operand) (s : Scope) (faulty : Bool) (back rest : List Lexeme) → operand s y back → NextStops (operand_continues x) faulty (back ++ rest)
-operand_over x (Value i) s faulty back rest h = rw h.1 (operand_stops x (val_name h.0) (λ e. cc))
-operand_over x (constant_variant c) s faulty back rest h = rw (h.whole, h.first.1) (operand_stops x (int h.first.0) (λ e. cc))
+operand_over x (Value i) s faulty back rest h = rw h.1 (λ m. let e = operand_more x (val_name h.0) m in cc)
+operand_over x (constant_variant c) s faulty back rest h = rw (h.whole, h.first.1) (λ m. let e = operand_more x (int h.first.0) m in cc)
 
 -- ---- this number of operands
 
 -- the operands after the first do not continue it
 further_over : (faulty : Bool) (s : Scope) (x : Operand) (xs : List Operand) (back rest : List Lexeme) → further s xs back → NextStops (operands_continue (x ∷ xs)) faulty rest → NextStops (operand_continues x) faulty (back ++ rest)
 further_over faulty s x [] back rest h st = rw h st
-further_over faulty s x (y ∷ ys) back rest h st = rw (h.whole, h.first.whole, h.first.first) (operand_stops x comma (λ e. cc))
+further_over faulty s x (y ∷ ys) back rest h st = rw (h.whole, h.first.whole, h.first.first) (λ m. let e = operand_more x comma m in cc)
 
 further_free : (s : Scope) (x : Operand) (xs : List Operand) (back rest : List Lexeme) → further s xs back → Free (operand_continues x) (back ++ rest) → Free (operands_continue xs) rest → Free (operands_continue (x ∷ xs)) rest
 further_free s x [] back rest h f g = subst (λ (z : List Lexeme). Free (operand_continues x) (z ++ rest)) h f
@@ -128,12 +117,34 @@ next_operand_rule : Rule Any (λ s x. token comma · operand s x) operand_contin
 unfolding next_operand_at
 next_operand_rule = after (mark comma refl) operand_rule
 
+-- an operand, and then n further ones
+abbrev paired : Reads Operand → ℕ → Reads (Operand × List Operand)
+paired m n = m >>= λ x. (further_at n x.1 >>= λ xs. Ok ((x.0, xs.0), xs.1))
+
+abbrev put_first : (Operand × List Operand) × Parsing → Reads (List Operand)
+put_first v = Ok (v.0.0 ∷ v.0.1, v.1)
+
+listed : (m : Reads Operand) (n : ℕ) → ◌≡◌ {A = Reads (List Operand)} (m >>= λ x. (further_at n x.1 >>= λ xs. Ok (x.0 ∷ xs.0, xs.1))) (paired m n >>= put_first)
+listed (Ok x) n = regrouped {B = (Operand × List Operand) × Parsing} (further_at n x.1) (λ xs. Ok ((x.0, xs.0), xs.1)) put_first
+listed (Err b) n = refl
+
+one_more : (n : ℕ) (xs : List Operand) → length xs ≡ suc n → (v : Operand × List Operand) × (length v.1 ≡ n) × (xs ≡ v.0 ∷ v.1)
+one_more n [] e = absurd (omega arith)
+one_more n (x ∷ xs) e = ((x, xs), omega (arith, e), refl)
+
+with_further : {F : FormOf Operand} {r : ReadingOf Operand} (n : ℕ) → Rule Any F operand_continues r → Rule (λ xs. length xs ≡ n) further operands_continue (further_at n)
+    → Rule (λ (v : Operand × List Operand). length v.1 ≡ n) (λ s v. F s v.0 · further s v.1) (λ v. operands_continue (v.0 ∷ v.1)) (λ p. paired (r p) n)
+with_further n m k = joined_to {G = λ s v. further s v.1} {d = λ v. operands_continue v.1} (λ v. v.0)
+    (λ faulty s v x back rest i h st. rw (← i) (further_over faulty s v.0 v.1 back rest h st))
+    ((λ v t h. later_continues v.0 v.1 t h), (λ s v x back rest i h f g. further_free s v.0 v.1 back rest h (subst (λ z. Free (operand_continues z) (back ++ rest)) (sym i) f) g))
+    (λ v x i h. tt) m (λ x. last (λ xs. (x, xs)) (λ xs e. (e, refl)) (λ v i. (v.1, i.0, ap (λ z. (z, v.1)) i.1)) k)
+
 pub further_rule : (n : ℕ) → Rule (λ xs. length xs ≡ n) further operands_continue (further_at n)
 unfolding next_operand_at
-further_rule zero = none further operands_continue (λ t h. h) (λ s ts h. h) (λ s ts h. h)
-further_rule (suc n) = reread (further_at (suc n)) (λ p. regrouped (accept (as_mark comma) p) (λ c. operand_at c.1) (λ x. further_at n x.1 >>= λ xs. Ok (x.0 ∷ xs.0, xs.1)))
-    (more further further operands_continue (λ s x xs ts h. h) (λ s x xs ts h. h) further_over later_continues further_free next_operand_rule n (further_rule n))
+further_rule zero = done [] refl nil_from_length (λ s ts h. h) (λ s. refl) (λ t h. h)
+further_rule (suc n) = reread (further_at (suc n)) (λ p. regrouped (accept (as_mark comma) p) (λ c. operand_at c.1) (λ x. further_at n x.1 >>= λ xs. Ok (x.0 ∷ xs.0, xs.1)) ∙ listed (next_operand_at p) n)
+    (last (λ v. v.0 ∷ v.1) (λ v e. ap suc e) (one_more n) (with_further n next_operand_rule (further_rule n)))
 
 pub operands_rule : (n : ℕ) → Rule (λ xs. length xs ≡ n) operands operands_continue (operands_at n)
-operands_rule zero = none operands operands_continue (λ t h. h) (λ s ts h. h) (λ s ts h. h)
-operands_rule (suc n) = more operands further operands_continue (λ s x xs ts h. h) (λ s x xs ts h. h) further_over later_continues further_free operand_rule n (further_rule n)
+operands_rule zero = done [] refl nil_from_length (λ s ts h. h) (λ s. refl) (λ t h. h)
+operands_rule (suc n) = reread (operands_at (suc n)) (λ p. listed (operand_at p) n) (last (λ v. v.0 ∷ v.1) (λ v e. ap suc e) (one_more n) (with_further n operand_rule (further_rule n)))

@@ -1,5 +1,5 @@
 -- Lemmas. The rules of what forms are made of: what reads a form, from what reads its parts.
-use Rattle.std.proofs.Common.{◌≡◌, ℕ, suc, arith, length, Bool, true, false, List, [], ◌∷◌, ◌++◌, Option, Some, None, Result, Ok, Err, refl, sym, ◌∙◌, ap, subst, append_assoc, inl, inr}
+use Rattle.std.proofs.Common.{◌≡◌, ℕ, Bool, true, false, List, [], ◌∷◌, ◌++◌, Option, Some, None, Result, Ok, Err, refl, sym, ◌∙◌, ap, subst, append_assoc, inl, inr}
 use Rattle.std.proofs.lemmas.List.{append-nil}
 use Rattle.std.specs.Prelude.{is_some}
 use Rattle.souper_graph.specs.Syntax.Tokens.{Lexeme, ident, val_name, int}
@@ -8,11 +8,11 @@ use Rattle.souper_ir.specs.Parsing.{Parsing}
 use Rattle.souper_ir.specs.Reading.{Reads, ◌>>=◌, looked_up}
 use Rattle.souper_ir.specs.Grammar.{Free, NextStops, Starts, peek_at}
 use Rattle.souper_ir.specs.NodeReadings.{accept, as_name, as_mark, as_word, int_by, ident_by}
-use Rattle.souper_ir.specs.Laws.Unique.{never, Free-weaker, NextStops-weaker}
-use Rattle.souper_ir.specs.Laws.Peeks.{ok_is, Answers, peeked}
+use Rattle.souper_ir.specs.Laws.Unique.{never, Free-weaker, NextStops-weaker, Free-from_NextStops}
+use Rattle.souper_ir.specs.Laws.Peeks.{ok_is, Answers, peeked, peeked_no}
 use Rattle.souper_ir.specs.Laws.Steps.{TakesTokens, Takes-then, Takes-none, state_then, taken_ahead, At, bind_ok, up_ok}
 use Rattle.souper_ir.specs.Laws.Tokens.{name_means, mark_means, word_means, word_of_is, int_means, ident_means}
-use Rattle.souper_ir.specs.Laws.Next.{accepted, accepts, sees, sees_none, seen_none, starts_longer, Shows, shows}
+use Rattle.souper_ir.specs.Laws.Next.{accepted, accepts, sees, sees_none, starts_longer, Shows, shows}
 
 -- ---- rules
 
@@ -58,36 +58,15 @@ reread f same m = record {
   complete = λ p v front rest at i h st. let k = m.complete p v front rest at i h st in record { next = k.next; is_read = same p ∙ k.is_read; ahead = k.ahead; state = k.state };
 }
 
--- another way to say which values are meant
-pub of_these : {V : Type 0} {Is Are : V → Type 0} {F : FormOf V} {c : V → Lexeme → Type 0} {r : ReadingOf V} → ((v : V) → Is v → Are v) → ((v : V) → Are v → Is v) → Rule Is F c r → Rule Are F c r
-of_these to from m = record {
-  sound = λ p q v live e. let k = m.sound p q v live e in record { used = k.used; taken = k.taken; is = to v k.is; formed = k.formed; free = k.free };
-  complete = λ p v front rest at i h st. m.complete p v front rest at (from v i) h st;
-}
-
--- what the form says of the value
-pub known : {V : Type 0} {Is : V → Type 0} {F : FormOf V} {c : V → Lexeme → Type 0} {r : ReadingOf V} → ((s : Scope) (v : V) (ts : List Lexeme) → F s v ts → Is v) → Rule Any F c r → Rule Is F c r
-known say m = record {
-  sound = λ p q v live e. let k = m.sound p q v live e in record { used = k.used; taken = k.taken; is = say p.scope v k.used k.formed; formed = k.formed; free = k.free };
-  complete = λ p v front rest at i h st. m.complete p v front rest at tt h st;
-}
-
--- another way to say what the form is
-pub reformed : {V : Type 0} {Is : V → Type 0} {F G : FormOf V} {c : V → Lexeme → Type 0} {r : ReadingOf V} → ((s : Scope) (v : V) (ts : List Lexeme) → Is v → F s v ts → G s v ts) → ((s : Scope) (v : V) (ts : List Lexeme) → Is v → G s v ts → F s v ts) → Rule Is F c r → Rule Is G c r
+-- another way to say which values are meant, and what their form is
+pub reformed : {V : Type 0} {Is Are : V → Type 0} {F G : FormOf V} {c : V → Lexeme → Type 0} {r : ReadingOf V} → ((s : Scope) (v : V) (ts : List Lexeme) → Is v → F s v ts → Are v × G s v ts)
+    → ((s : Scope) (v : V) (ts : List Lexeme) → Are v → G s v ts → Is v × F s v ts) → Rule Is F c r → Rule Are G c r
 reformed to from m = record {
-  sound = λ p q v live e. let k = m.sound p q v live e in record { used = k.used; taken = k.taken; is = k.is; formed = to p.scope v k.used k.is k.formed; free = k.free };
-  complete = λ p v front rest at i h st. m.complete p v front rest at i (from p.scope v front i h) st;
-}
-
--- the rule of a spelling, from that of a form
-pub node : {V : Type 0} {F G : FormOf V} {c : V → Lexeme → Type 0} {r : ReadingOf V} → Rule Any F c r → ((s : Scope) (v : V) (ts : List Lexeme) → F s v ts → G s v ts) → ((s : Scope) (v : V) (ts : List Lexeme) → G s v ts → F s v ts) → Rule Any G c r
-node m to from = reformed (λ s v ts i h. to s v ts h) (λ s v ts i h. from s v ts h) m
-
--- another way to say what continues the value
-pub continued : {V : Type 0} {Is : V → Type 0} {F : FormOf V} {c d : V → Lexeme → Type 0} {r : ReadingOf V} → ((v : V) (t : Lexeme) → Is v → d v t → c v t) → ((v : V) (t : Lexeme) → Is v → c v t → d v t) → Rule Is F c r → Rule Is F d r
-continued {c = c} {d = d} to from m = record {
-  sound = λ p q v live e. let k = m.sound p q v live e in record { used = k.used; taken = k.taken; is = k.is; formed = k.formed; free = Free-weaker (c v) (d v) (kinds q.tokens) (λ t. to v t k.is) k.free };
-  complete = λ p v front rest at i h st. m.complete p v front rest at i h (NextStops-weaker (d v) (c v) p.faulty rest (λ t. from v t i) st);
+  sound = λ p q v live e.
+      let k = m.sound p q v live e in
+      let h = to p.scope v k.used k.is k.formed in
+      record { used = k.used; taken = k.taken; is = h.0; formed = h.1; free = k.free };
+  complete = λ p v front rest at i h st. let k = from p.scope v front i h in m.complete p v front rest at k.0 k.1 st;
 }
 
 -- what does not come from the tokens, if it is known of the values that are meant
@@ -105,6 +84,11 @@ pub regrouped : {A B C : Type 0} (m : Result A Bool) (f : A → Result B Bool) (
 regrouped (Ok x) f g = refl
 regrouped (Err b) f g = refl
 
+-- what is read next, another way
+pub read_next : {A B : Type 0} (m : Result A Bool) (f g : A → Result B Bool) → ((x : A) → f x ≡ g x) → (m >>= f) ≡ (m >>= g)
+read_next (Ok x) f g h = h x
+read_next (Err b) f g h = refl
+
 -- ---- nothing
 
 -- a form alone, and nothing after it
@@ -114,11 +98,14 @@ with_nothing F ts h = record { prefix = ts; suffix = []; whole = sym (append-nil
 pub without_nothing : (F : Form) (ts : List Lexeme) → (F · nothing) ts → F ts
 without_nothing F ts h = subst F (sym (h.whole ∙ ap (λ (x : List Lexeme). h.prefix ++ x) h.second ∙ append-nil h.prefix)) h.first
 
-pub done : {V : Type 0} {Is : V → Type 0} (w : V) → Is w → ((v : V) → Is v → v ≡ w) → Rule Is (λ s v. nothing) Never (λ p. Ok (w, p))
-done {V} {Is} w is only = record {
+-- one value, whose form is empty, and which nothing continues
+pub done : {V : Type 0} {Is : V → Type 0} {F : FormOf V} {c : V → Lexeme → Type 0} (w : V) → Is w → ((v : V) → Is v → v ≡ w) → ((s : Scope) (ts : List Lexeme) → F s w ts → ts ≡ []) → ((s : Scope) → F s w []) → ((t : Lexeme) → ¬ c w t) → Rule Is F c (λ p. Ok (w, p))
+done {V} {Is} {F} {c} w is only empty none stops = record {
   sound = λ p q v live e. let same : ◌≡◌ {A = V × Parsing} (w, p) (v, q) = ok_is e in
-      subst (λ (x : V × Parsing). Took Is (λ s v. nothing) Never p x.1 x.0) same (record { used = []; taken = Takes-none p; is = is; formed = refl; free = never (kinds p.tokens) });
-  complete = λ p v front rest at i h st. record { next = p; is_read = ap (λ (x : V). Ok (x, p)) (sym (only v i)); ahead = subst (λ (x : List Lexeme). At p (x ++ rest)) h at; state = refl };
+      subst (λ (x : V × Parsing). Took Is F c p x.1 x.0) same (record { used = []; taken = Takes-none p; is = is; formed = none p.scope; free = Free-weaker (λ t. ⊥) (c w) (kinds p.tokens) stops (never (kinds p.tokens)) });
+  complete = λ p v front rest at i h st.
+      let k = empty p.scope front (subst (λ (x : V). F p.scope x front) (only v i) h) in
+      record { next = p; is_read = ap (λ (x : V). Ok (x, p)) (sym (only v i)); ahead = subst (λ (x : List Lexeme). At p (x ++ rest)) k at; state = refl };
 }
 
 -- ---- one token
@@ -176,15 +163,7 @@ name_read {A} read = record {
 
 -- readings in sequence, grouped otherwise
 pub by_name : {A V : Type 0} (read : Scope → List ℕ → Option A) (k : A → ReadingOf V) (p : Parsing) → (accept as_name p >>= λ n. looked_up (read n.1.scope n.0) >>= λ a. k a n.1) ≡ (name_at read p >>= λ x. k x.0 x.1)
-by_name {A} {V} read k p = named (accept as_name p)
-  where
-    found : (o : Option A) (q : Parsing) → ◌≡◌ {A = Reads V} (looked_up o >>= λ a. k a q) (found_at o q >>= λ x. k x.0 x.1)
-    found (Some a) q = refl
-    found None q = refl
-
-    named : (m : Reads (List ℕ)) → ◌≡◌ {A = Reads V} (m >>= λ n. looked_up (read n.1.scope n.0) >>= λ a. k a n.1) ((m >>= λ n. found_at (read n.1.scope n.0) n.1) >>= λ x. k x.0 x.1)
-    named (Ok n) = found (read n.1.scope n.0) n.1
-    named (Err b) = refl
+by_name read k p = read_next (accept as_name p) _ _ (λ n. regrouped (looked_up (read n.1.scope n.0)) (λ a. Ok (a, n.1)) (λ x. k x.0 x.1)) ∙ regrouped (accept as_name p) (λ n. found_at (read n.1.scope n.0) n.1) (λ x. k x.0 x.1)
 
 -- ---- F, and then G
 
@@ -243,18 +222,23 @@ pub joined_some : {A V : Type 0} {Is : V → Type 0} {F : FormOf A} {G : FormOf 
 joined_some {G = G} {d = d} Has m n = parts Has G Never d d (quiet Has G d) (second_ends Has G Never d) (λ v a i h. tt) m (λ a o. n a)
 
 -- the value has the first part
+pub joined_to : {A V : Type 0} {Of : A → Type 0} {Is : V → Type 0} {F : FormOf A} {G : FormOf V} {c : A → Lexeme → Type 0} {d e : V → Lexeme → Type 0} {r : ReadingOf A} {f : A → ReadingOf V} (a_of : V → A)
+    → Over (λ v a. a_of v ≡ a) G c d e → Ends (λ v a. a_of v ≡ a) G c d e → ((v : V) (a : A) → Is v → a_of v ≡ a → Of a)
+    → Rule Of F c r → ((a : A) → Rule (λ v. Is v × (a_of v ≡ a)) G d (f a)) → Rule Is (λ s v. F s (a_of v) · G s v) e (λ p. r p >>= λ x. f x.0 x.1)
+joined_to {F = F} {G = G} {c = c} {d = d} {e = e} a_of over ends fits m n = reformed
+    (λ s v ts i h. (i, record { prefix = h.prefix; suffix = h.suffix; whole = h.whole; first = subst (λ a. F s a h.prefix) (sym h.first.1) h.first.2; second = h.second }))
+    (λ s v ts i h. (i, record { prefix = h.prefix; suffix = h.suffix; whole = h.whole; first = (a_of v, refl, h.first); second = h.second }))
+    (parts (λ v a. a_of v ≡ a) G c d e over ends fits m (λ a o. n a))
+
 pub joined : {A V : Type 0} {Is : V → Type 0} {F : FormOf A} {G : FormOf V} {c : A → Lexeme → Type 0} {d : V → Lexeme → Type 0} {r : ReadingOf A} {f : A → ReadingOf V} (a_of : V → A)
     → Over (λ v a. a_of v ≡ a) G c d d → Rule Any F c r → ((a : A) → Rule (λ v. Is v × (a_of v ≡ a)) G d (f a)) → Rule Is (λ s v. F s (a_of v) · G s v) d (λ p. r p >>= λ x. f x.0 x.1)
-joined {F = F} {G = G} {c = c} {d = d} a_of over m n = reformed
-    (λ s v ts i h. record { prefix = h.prefix; suffix = h.suffix; whole = h.whole; first = subst (λ a. F s a h.prefix) (sym h.first.1) h.first.2; second = h.second })
-    (λ s v ts i h. record { prefix = h.prefix; suffix = h.suffix; whole = h.whole; first = (a_of v, refl, h.first); second = h.second })
-    (parts (λ v a. a_of v ≡ a) G c d d over (second_ends (λ v a. a_of v ≡ a) G c d) (λ v a i h. tt) m (λ a o. n a))
+joined {G = G} {c = c} {d = d} a_of over m n = joined_to a_of over (second_ends (λ v a. a_of v ≡ a) G c d) (λ v a i h. tt) m n
 
 -- after a token
 pub after : {V : Type 0} {Is : V → Type 0} {T : Form} {G : FormOf V} {d : V → Lexeme → Type 0} {m : ReadingOf (Unit {0})} {r : ReadingOf V} → Rule Any (λ s u. T) Never m → Rule Is G d r → Rule Is (λ s v. T · G s v) d (λ p. m p >>= λ x. r x.1)
 after {V = V} {G = G} {d = d} m n =
     let none : V → Unit {0} = λ v. tt in
-    joined none (quiet (λ v u. none v ≡ u) G d) m (λ u. of_these (λ v i. (i, refl)) (λ v i. i.0) n)
+    joined none (quiet (λ v u. none v ≡ u) G d) m (λ u. reformed (λ s v ts i h. ((i, refl), h)) (λ s v ts i h. (i.0, h)) n)
 
 -- after what nothing continues
 pub first : {A V : Type 0} {Is : V → Type 0} {F : FormOf A} {G : FormOf V} {d : V → Lexeme → Type 0} {r : ReadingOf A} {f : A → ReadingOf V} (a_of : V → A)
@@ -279,13 +263,11 @@ last {V = V} {Is = Is} {G = G} {d = d} {r = r} make makes made m = record {
 -- a word of a table, and then what the word says
 pub worded : {K V : Type 0} {Is : V → Type 0} {B : FormOf V} {d : V → Lexeme → Type 0} {r : ReadingOf K} {f : K → ReadingOf V} (kind_of : List ℕ → Option K) (wording : V → List ℕ) (kind : V → K)
     → ((v : V) → kind_of (wording v) ≡ Some (kind v)) → ((w : List ℕ) (v : V) → kind_of w ≡ Some (kind v) → w ≡ wording v) → Rule Any (λ s. one ident kind_of) Never r
-    → ((k : K) (w : List ℕ) → kind_of w ≡ Some k → Rule (λ v. Is v × (kind v ≡ k)) B d (f k)) → Rule Is (λ s v. word (wording v) · B s v) d (λ p. r p >>= λ k. f k.0 k.1)
-worded {K} {B = B} {d = d} kind_of wording kind is means m n =
-    let Worded : K → Type 0 = λ k. (w : List ℕ) × (kind_of w ≡ Some k) in
-    reformed
-    (λ s v ts i h. let w = h.first.2 in record { prefix = h.prefix; suffix = h.suffix; whole = h.whole; first = w.1 ∙ ap (λ (x : List ℕ). ident x ∷ []) (means w.0 v (w.2 ∙ ap Some (sym h.first.1))); second = h.second })
-    (λ s v ts i h. record { prefix = h.prefix; suffix = h.suffix; whole = h.whole; first = (kind v, refl, (wording v, h.first, is v)); second = h.second })
-    (parts (λ v k. kind v ≡ k) B Never d d (quiet (λ v k. kind v ≡ k) B d) (second_ends (λ v k. kind v ≡ k) B Never d) (λ v k i e. (wording v, is v ∙ ap Some e)) (known {Is = Worded} (λ s k ts h. (h.0, h.2)) m) (λ k o. n k o.0 o.1))
+    → ((k : K) → Rule (λ v. Is v × (kind v ≡ k)) B d (f k)) → Rule Is (λ s v. word (wording v) · B s v) d (λ p. r p >>= λ k. f k.0 k.1)
+worded kind_of wording kind is means m n = reformed
+    (λ s v ts i h. let w = h.first in (i, record { prefix = h.prefix; suffix = h.suffix; whole = h.whole; first = w.1 ∙ ap (λ (x : List ℕ). ident x ∷ []) (means w.0 v w.2); second = h.second }))
+    (λ s v ts i h. (i, record { prefix = h.prefix; suffix = h.suffix; whole = h.whole; first = (wording v, h.first, is v); second = h.second }))
+    (first kind m n)
 
 -- ---- choices by the next token
 
@@ -298,7 +280,7 @@ module _ {A : Type 0} {F : FormOf A} (f : Bool → ReadingOf (Option A)) (starts
   chosen : (b : Bool) (p q : Parsing) (o : Option A) → p.failed ≡ None → Answers starts b p.faulty p.tokens → f b p ≡ Ok (o, q) → Chosen p q o
   chosen false p q o live seen e =
       let same : ◌≡◌ {A = Option A × Parsing} (None, p) (o, q) = ok_is (sym (without p) ∙ e) in
-      let free : Free (d None) (kinds p.tokens) = Free-weaker (λ t. starts t ≡ true) (d None) (kinds p.tokens) goes (seen_none starts p.faulty p.tokens seen) in
+      let free : Free (d None) (kinds p.tokens) = Free-weaker (λ t. starts t ≡ true) (d None) (kinds p.tokens) goes (Free-from_NextStops _ p.faulty (kinds p.tokens) (peeked_no starts p.faulty p.tokens seen)) in
       subst (λ (x : Option A × Parsing). Chosen p x.1 x.0) same (record { used = []; taken = Takes-none p; is = tt; formed = refl; free = free })
   chosen true p q o live seen e =
       let k = m.sound p q o live e in
@@ -375,60 +357,3 @@ module _ {V : Type 0} {F : FormOf V} {c : V → Lexeme → Type 0} {f : Bool →
         let k = (n (side v)).complete p v front rest at refl h st in
         record { next = k.next; is_read = rw (shows starts (side v) p front rest at (begins p.scope v front h), k.is_read) refl; ahead = k.ahead; state = k.state };
   }
-
--- ---- lists of a known length
-
-abbrev pub Begins : {A : Type 0} → List A → A → Type 0
-Begins [] x = ⊥
-Begins (y ∷ ys) x = y ≡ x
-
-abbrev pub behind : {A : Type 0} → List A → List A
-behind [] = []
-behind (x ∷ xs) = xs
-
-is_empty : {A : Type 0} (xs : List A) → length xs ≡ 0 → xs ≡ []
-is_empty [] e = refl
-is_empty (x ∷ xs) e = absurd (omega arith)
-
--- none
-pub none : {A : Type 0} (L : FormOf (List A)) (d : List A → Lexeme → Type 0) → ((t : Lexeme) → ¬ d [] t) → ((s : Scope) (ts : List Lexeme) → L s [] ts → ts ≡ []) → ((s : Scope) (ts : List Lexeme) → ts ≡ [] → L s [] ts) → Rule (λ xs. length xs ≡ 0) L d (λ p. Ok ([], p))
-none {A} L d stops to from = reformed
-    (λ s xs ts e h. subst (λ (ys : List A). L s ys ts) (sym (is_empty xs e)) (from s ts h))
-    (λ s xs ts e h. to s ts (subst (λ (ys : List A). L s ys ts) (is_empty xs e) h))
-    (continued (λ xs t e h. stops t (subst (λ (ys : List A). d ys t) (is_empty xs e) h)) (λ xs t e h. absurd h) (done [] refl is_empty))
-
--- one more: L is F, and then M
-module _ {A : Type 0} {F : FormOf A} {c : A → Lexeme → Type 0} {r : ReadingOf A} (L M : FormOf (List A)) (d : List A → Lexeme → Type 0)
-    (to : (s : Scope) (x : A) (xs : List A) (ts : List Lexeme) → (F s x · M s xs) ts → L s (x ∷ xs) ts)
-    (from : (s : Scope) (x : A) (xs : List A) (ts : List Lexeme) → L s (x ∷ xs) ts → (F s x · M s xs) ts)
-    (over : (faulty : Bool) (s : Scope) (x : A) (xs : List A) (b rest : List Lexeme) → M s xs b → NextStops (d (x ∷ xs)) faulty rest → NextStops (c x) faulty (b ++ rest))
-    (later : (x : A) (xs : List A) (t : Lexeme) → d xs t → d (x ∷ xs) t)
-    (free : (s : Scope) (x : A) (xs : List A) (b rest : List Lexeme) → M s xs b → Free (c x) (b ++ rest) → Free (d xs) rest → Free (d (x ∷ xs)) rest)
-    (m : Rule Any F c r) where
-  more_over : Over Begins (λ s xs. M s (behind xs)) c (λ xs. d (behind xs)) d
-  more_over faulty s [] x b rest e h st = absurd e
-  more_over faulty s (y ∷ xs) x b rest e h st = subst (λ z. NextStops (c z) faulty (b ++ rest)) e (over faulty s y xs b rest h st)
-
-  more_later : (xs : List A) (t : Lexeme) → d (behind xs) t → d xs t
-  more_later [] t h = h
-  more_later (x ∷ xs) t h = later x xs t h
-
-  more_free : (s : Scope) (xs : List A) (x : A) (b rest : List Lexeme) → Begins xs x → M s (behind xs) b → Free (c x) (b ++ rest) → Free (d (behind xs)) rest → Free (d xs) rest
-  more_free s [] x b rest e h f g = absurd e
-  more_free s (y ∷ xs) x b rest e h f g = free s y xs b rest h (subst (λ z. Free (c z) (b ++ rest)) (sym e) f) g
-
-  more_to : (n : ℕ) (s : Scope) (xs : List A) (ts : List Lexeme) → length xs ≡ suc n → (some (Begins xs) (F s) · M s (behind xs)) ts → L s xs ts
-  more_to n s [] ts e h = absurd h.first.1
-  more_to n s (x ∷ xs) ts e h = to s x xs ts (record { prefix = h.prefix; suffix = h.suffix; whole = h.whole; first = subst (λ z. F s z h.prefix) (sym h.first.1) h.first.2; second = h.second })
-
-  more_from : (n : ℕ) (s : Scope) (xs : List A) (ts : List Lexeme) → length xs ≡ suc n → L s xs ts → (some (Begins xs) (F s) · M s (behind xs)) ts
-  more_from n s [] ts e h = absurd (omega arith)
-  more_from n s (x ∷ xs) ts e h = let k = from s x xs ts h in record { prefix = k.prefix; suffix = k.suffix; whole = k.whole; first = (x, refl, k.first); second = k.second }
-
-  put : (n : ℕ) (x : A) (xs : List A) → (length xs ≡ suc n) × Begins xs x → (ys : List A) × (length ys ≡ n) × (xs ≡ x ∷ ys)
-  put n x [] i = absurd i.1
-  put n x (y ∷ ys) i = (ys, omega (arith, i.0), ap (λ z. z ∷ ys) i.1)
-
-  pub more : {rs : ReadingOf (List A)} (n : ℕ) → Rule (λ xs. length xs ≡ n) M d rs → Rule (λ xs. length xs ≡ suc n) L d (λ p. r p >>= λ x. (rs x.1 >>= λ xs. Ok (x.0 ∷ xs.0, xs.1)))
-  more n k = reformed (more_to n) (more_from n)
-      (parts Begins (λ s xs. M s (behind xs)) c (λ xs. d (behind xs)) d more_over (more_later, more_free) (λ v a i h. tt) m (λ x o. last (λ ys. x ∷ ys) (λ ys e. (ap suc e, refl)) (put n x) k))

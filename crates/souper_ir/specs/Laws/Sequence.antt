@@ -1,14 +1,14 @@
 -- Lemmas. One value after another: what two parses in sequence took, and when the pair of them is not spelled.
-use Rattle.std.specs.Prelude.{◌≡◌, ℕ, Bool, List, [], ◌∷◌, ◌++◌, Option, None}
+use Rattle.std.specs.Prelude.{◌≡◌, ℕ, Bool, false, List, [], ◌∷◌, ◌++◌}
 use Rattle.std.proofs.Common.{sym, ◌∙◌, ap, subst, append_assoc}
 use Rattle.std.proofs.lemmas.List.{append_cancel_left}
 use Rattle.souper_errors.specs.declared.error.ParseError.{ParseError}
-use Rattle.souper_ir.specs.Parsing.{Cause, Parsing}
+use Rattle.souper_ir.specs.Parsing.{Parsing}
 use Rattle.souper_graph.specs.Syntax.Tokens.{Lexeme}
 use Rattle.souper_graph.specs.Syntax.Spelling.{kinds, Scope}
-use Rattle.souper_ir.specs.Reading.{cause_of, IfRefused, if_refused, fails_later}
+use Rattle.souper_ir.specs.Reading.{cause_of, if_refused, fails_later}
 use Rattle.souper_ir.specs.Grammar.{Free, NextStops, Followed, Took, NoFront, Refusal}
-use Rattle.souper_ir.specs.Laws.Unique.{Alone, Free-from_NextStops, Free-front}
+use Rattle.souper_ir.specs.Laws.Unique.{Alone, Free-weaker, NextStops-weaker, Free-from_NextStops, NextStops-from_Free, Free-front}
 use Rattle.souper_ir.specs.Laws.Steps.{kinds-append}
 
 -- the tokens are a spelling of a, and then one of b, which does not continue a
@@ -24,23 +24,13 @@ module _ {A B C : Type 0} (spells_a : Scope → A → List Lexeme → Type 0) (g
   abbrev pub Both : Scope → C → List Lexeme → Type 0
   Both s c ts = Split spells_a goes_on_a spells_b s (a_of c) (b_of c) ts
 
-  free_over : (s : Scope) (c : C) (y rest : List Lexeme) → spells_b s (b_of c) y → Free (goes_on_a (a_of c)) y → Free (goes_on_c c) rest → Free (goes_on_a (a_of c)) (y ++ rest)
-  free_over s c (t ∷ y) rest sp f g = f
-  free_over s c [] [] sp f g = tt
-  free_over s c [] (t ∷ rest) sp f g = λ h. g (over s c t sp h)
-
   stops_over : (faulty : Bool) (s : Scope) (c : C) (y rest : List Lexeme) → spells_b s (b_of c) y → Free (goes_on_a (a_of c)) y → NextStops (goes_on_c c) faulty rest → NextStops (goes_on_a (a_of c)) faulty (y ++ rest)
   stops_over faulty s c (t ∷ y) rest sp f g = f
   stops_over faulty s c [] [] sp f g = g
   stops_over faulty s c [] (t ∷ rest) sp f g = λ h. g (over s c t sp h)
 
-  free_last : (c : C) (rest : List Lexeme) → Free (goes_on_c c) rest → Free (goes_on_b (b_of c)) rest
-  free_last c [] f = tt
-  free_last c (t ∷ rest) f = λ h. f (last c t h)
-
-  stops_last : (faulty : Bool) (c : C) (rest : List Lexeme) → NextStops (goes_on_c c) faulty rest → NextStops (goes_on_b (b_of c)) faulty rest
-  stops_last faulty c [] f = f
-  stops_last faulty c (t ∷ rest) f = λ h. f (last c t h)
+  free_over : (s : Scope) (c : C) (y rest : List Lexeme) → spells_b s (b_of c) y → Free (goes_on_a (a_of c)) y → Free (goes_on_c c) rest → Free (goes_on_a (a_of c)) (y ++ rest)
+  free_over s c y rest sp f g = Free-from_NextStops (goes_on_a (a_of c)) false (y ++ rest) (stops_over false s c y rest sp f (NextStops-from_Free (goes_on_c c) rest g))
 
   regroup : (ts front back rest : List Lexeme) → ts ≡ front ++ back → ts ++ rest ≡ front ++ (back ++ rest)
   regroup ts front back rest e = ap (λ (x : List Lexeme). x ++ rest) e ∙ append_assoc front back rest
@@ -51,7 +41,7 @@ module _ {A B C : Type 0} (spells_a : Scope → A → List Lexeme → Type 0) (g
       let whole : m.prefix ++ (m.suffix ++ c) ≡ n.prefix ++ (n.suffix ++ d) = sym (regroup a m.prefix m.suffix c m.whole) ∙ e ∙ regroup b n.prefix n.suffix d n.whole in
       let here = alone_a s (a_of v) (a_of w) m.prefix n.prefix (m.suffix ++ c) (n.suffix ++ d) whole m.first n.first (free_over s v m.suffix c m.second m.free f) (free_over s w n.suffix d n.second n.free g) in
       let rest : m.suffix ++ c ≡ n.suffix ++ d = append_cancel_left n.prefix (m.suffix ++ c) (n.suffix ++ d) (ap (λ (x : List Lexeme). x ++ (m.suffix ++ c)) (sym here.0) ∙ whole) in
-      let there = alone_b s (b_of v) (b_of w) m.suffix n.suffix c d rest m.second n.second (free_last v c f) (free_last w d g) in
+      let there = alone_b s (b_of v) (b_of w) m.suffix n.suffix c d rest m.second n.second (Free-weaker (goes_on_c v) (goes_on_b (b_of v)) c (last v) f) (Free-weaker (goes_on_c w) (goes_on_b (b_of w)) d (last w) g) in
       (m.whole ∙ ap (λ (x : List Lexeme). x ++ m.suffix) here.0 ∙ ap (λ (x : List Lexeme). n.prefix ++ x) there.0 ∙ sym n.whole, here.1, there.1)
 
   -- ---- refusals
@@ -60,11 +50,8 @@ module _ {A B C : Type 0} (spells_a : Scope → A → List Lexeme → Type 0) (g
   none_first p none c front rest e sp st =
       none (a_of c) sp.prefix (sp.suffix ++ rest) (e ∙ regroup front sp.prefix sp.suffix rest sp.whole) sp.first (stops_over p.faulty p.scope c sp.suffix rest sp.second sp.free st)
 
-  pub none_first_if : (p : Parsing) (f : Option Cause) → IfRefused f (p.failed ≡ None → NoFront spells_a goes_on_a p) → IfRefused f (p.failed ≡ None → NoFront Both goes_on_c p)
-  none_first_if p f = if_refused f (λ h live. none_first p (h live))
-
   pub refused_first : (e : ParseError) (p q : Parsing) → Refusal spells_a goes_on_a e p q → Refusal Both goes_on_c e p q
-  refused_first e p q h = record { failed = h.failed; nothing = none_first_if p (cause_of e) h.nothing }
+  refused_first e p q h = record { failed = h.failed; nothing = if_refused (cause_of e) (λ none live. none_first p (none live)) h.nothing }
 
   none_second : (a : A) (p q : Parsing) → Took spells_a goes_on_a (λ s. s) a p q → NoFront spells_b goes_on_b q → NoFront Both goes_on_c p
   none_second a p q took none c front rest e sp st =
@@ -74,15 +61,12 @@ module _ {A B C : Type 0} (spells_a : Scope → A → List Lexeme → Type 0) (g
       (Free-from_NextStops (goes_on_a (a_of c)) p.faulty (sp.suffix ++ rest) (stops_over p.faulty p.scope c sp.suffix rest sp.second sp.free st)) in
       let tail : kinds q.tokens ≡ sp.suffix ++ rest = append_cancel_left sp.prefix (kinds q.tokens) (sp.suffix ++ rest) (ap (λ (x : List Lexeme). x ++ kinds q.tokens) (sym here.0) ∙ whole) in
       let at_q : spells_b q.scope (b_of c) sp.suffix = subst (λ (x : Parsing). spells_b x.scope (b_of c) sp.suffix) (sym took.state) sp.second in
-      none (b_of c) sp.suffix rest tail at_q (subst (λ (x : Parsing). NextStops (goes_on_b (b_of c)) x.faulty rest) (sym took.state) (stops_last p.faulty c rest st))
-
-  none_second_if : (a : A) (p q : Parsing) (f : Option Cause) → Took spells_a goes_on_a (λ s. s) a p q → IfRefused f (q.failed ≡ None → NoFront spells_b goes_on_b q) → IfRefused f (p.failed ≡ None → NoFront Both goes_on_c p)
-  none_second_if a p q f took = if_refused f (λ h live. none_second a p q took (h (ap (λ (x : Parsing). x.failed) took.state ∙ live)))
+      none (b_of c) sp.suffix rest tail at_q (subst (λ (x : Parsing). NextStops (goes_on_b (b_of c)) x.faulty rest) (sym took.state) (NextStops-weaker (goes_on_c c) (goes_on_b (b_of c)) p.faulty rest (last c) st))
 
   pub refused_second : (a : A) (e : ParseError) (p q r : Parsing) → Took spells_a goes_on_a (λ s. s) a p q → Refusal spells_b goes_on_b e q r → Refusal Both goes_on_c e p r
   refused_second a e p q r took h = record {
     failed = fails_later e p q r (ap (λ (x : Parsing). x.failed) took.state) (ap (λ (x : Parsing). x.len) took.state) h.failed;
-    nothing = none_second_if a p q (cause_of e) took h.nothing;
+    nothing = if_refused (cause_of e) (λ none live. none_second a p q took (none (ap (λ (x : Parsing). x.failed) took.state ∙ live))) h.nothing;
   }
 
   -- ---- both were taken

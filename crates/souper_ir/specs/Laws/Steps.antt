@@ -1,11 +1,10 @@
 -- Lemmas. Steps of a reading: what they took, and what comes next.
-use Rattle.std.proofs.Common.{◌≡◌, ℕ, List, [], ◌∷◌, ◌++◌, Option, Some, None, Bool, Result, Ok, Err, refl, sym, ◌∙◌, ap, subst, append_assoc}
+use Rattle.std.proofs.Common.{◌≡◌, ℕ, List, [], ◌∷◌, ◌++◌, Option, Some, None, Bool, Result, Ok, Err, refl, sym, ◌∙◌, ap, append_assoc}
 use Rattle.souper_ir.specs.Parsing.{Parsing}
 use Rattle.souper_ir.specs.Reading.{◌>>=◌, looked_up}
 use Rattle.souper_graph.specs.Syntax.Tokens.{Lexeme}
 use Rattle.souper_graph.specs.Syntax.Spelling.{kinds}
 use Rattle.souper_graph.specs.Syntax.Optional.{◌>>=◌ as ◌>>?◌}
-use Rattle.souper_ir.specs.Laws.Peeks.{ok_is}
 
 -- the tokens were taken, and nothing else changed
 pub record TakesTokens (p q : Parsing) (used : List Lexeme) : Type 0 where
@@ -56,7 +55,3 @@ up_ok None f y e = absurd cc
 pub bind_some : {A B : Type 0} (o : Option A) (f : A → Option B) (y : B) → (o >>? f) ≡ Some y → (x : A) × (o ≡ Some x) × (f x ≡ Some y)
 bind_some (Some x) f y e = (x, refl, e)
 bind_some None f y e = absurd cc
-
--- what holds of the value that was computed holds of the one that it is
-pub holds_of_same : {Y : Type 0} (P : Y → Type 0) (x y : Y) → ◌≡◌ {A = Result Y Bool} (Ok x) (Ok y) → P x → P y
-holds_of_same P x y e h = subst P (ok_is e) h

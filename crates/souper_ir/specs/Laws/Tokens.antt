@@ -3,6 +3,8 @@ use Rattle.std.proofs.Common.{◌≡◌, ℕ, Bool, true, false, List, Option, S
 use Rattle.std.specs.Prelude.{bytes_eq, is_some, if◌then◌else◌}
 use Rattle.std.proofs.lemmas.Slice.Eq.{bytes_eq-Decides}
 use Rattle.souper_graph.specs.Syntax.Tokens.{Lexeme, ident, val_name, int, comma, colon, equals, open_paren, close_paren, open_bracket}
+use Rattle.souper_graph.specs.Syntax.Spelling.{Form, ◌·◌, word}
+use Rattle.souper_ir.specs.Grammar.{Starts}
 use Rattle.souper_ir.specs.NodeReadings.{as_name, as_mark, is_mark, is_word, as_word, int_by, ident_by}
 use Rattle.souper_ir.specs.Laws.Peeks.{some_is}
 
@@ -30,15 +32,19 @@ pub is_word_means : (k : List ℕ) (t : Lexeme) → is_word k t ≡ true → t �
 is_word_means k (ident w) e = ap ident ((bytes_eq-Decides w k).0 e)
 is_word_means k _ e = absurd cc
 
-if_some : (b : Bool) → ◌≡◌ {A = Option (Unit {0})} (if b then Some tt else None) (Some tt) → b ≡ true
-if_some true e = refl
-if_some false e = absurd cc
+pub some_of_if : {A : Type 0} (b : Bool) (x y : A) → (if b then Some x else None) ≡ Some y → (b ≡ true) × (x ≡ y)
+some_of_if true x y e = (refl, some_is e)
+some_of_if false x y e = absurd cc
 
 pub word_means : (k : List ℕ) (t : Lexeme) → as_word k t ≡ Some tt → t ≡ ident k
-word_means k t e = is_word_means k t (if_some (is_word k t) e)
+word_means k t e = is_word_means k t (some_of_if (is_word k t) tt tt e).0
 
 pub word_is : (k : List ℕ) → is_word k (ident k) ≡ true
 word_is k = (bytes_eq-Decides k k).1 refl
+
+-- a word, and then a form
+pub word_first : {F : Form} (w : List ℕ) (ts : List Lexeme) → (word w · F) ts → Starts (is_word w) ts
+word_first w ts h = rw (h.whole, h.first) (word_is w)
 
 pub word_of_is : (k : List ℕ) → as_word k (ident k) ≡ Some tt
 word_of_is k = rw (word_is k) refl

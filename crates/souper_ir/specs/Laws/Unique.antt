@@ -1,5 +1,5 @@
 -- Lemmas. At most one prefix spells a value, for options and lists of what that holds of.
-use Rattle.std.specs.Prelude.{◌≡◌, Bool, true, List, [], ◌∷◌, ◌++◌, Option, Some, None}
+use Rattle.std.specs.Prelude.{◌≡◌, Bool, true, false, List, [], ◌∷◌, ◌++◌, Option, Some, None}
 use Rattle.std.proofs.Common.{refl, sym, ◌∙◌, ap, subst, inl, inr, append_assoc}
 use Rattle.std.proofs.lemmas.List.{append_cancel_left}
 use Rattle.souper_graph.specs.Syntax.Tokens.{Lexeme}
@@ -28,6 +28,10 @@ NextStops-weaker P Q faulty (t ∷ ts) f h = λ q. h (f t q)
 pub Free-from_NextStops : (P : Lexeme → Type 0) (faulty : Bool) (ts : List Lexeme) → NextStops P faulty ts → Free P ts
 Free-from_NextStops P faulty [] h = tt
 Free-from_NextStops P faulty (t ∷ ts) h = h
+
+pub NextStops-from_Free : (P : Lexeme → Type 0) (ts : List Lexeme) → Free P ts → NextStops P false ts
+NextStops-from_Free P [] h = refl
+NextStops-from_Free P (t ∷ ts) h = h
 
 pub Free-front : (P : Lexeme → Type 0) (a b : List Lexeme) → Free P (a ++ b) → Free P a
 Free-front P [] b h = tt
@@ -61,15 +65,13 @@ module _ {V : Type 0} (spells : V → List Lexeme → Type 0) (continues : V →
   not_empty v (t ∷ a) b s e = cc
 
   -- what follows a first member does not continue it
-  pub free_over : (v : V) (vs : List V) (a c : List Lexeme) → Free (continues v) a → Members spells continues vs a → Free (λ t. LastGoesOn continues (v ∷ vs) t) c → Free (continues v) (a ++ c)
-  free_over v vs (t ∷ a) c f m g = f
-  free_over v [] [] c f m g = g
-  free_over v (w ∷ vs) [] c f m g = absurd (not_empty w m.prefix m.suffix m.first (sym m.whole))
-
   pub stops_over : (faulty : Bool) (v : V) (vs : List V) (a c : List Lexeme) → Free (continues v) a → Members spells continues vs a → NextStops (λ t. LastGoesOn continues (v ∷ vs) t) faulty c → NextStops (continues v) faulty (a ++ c)
   stops_over faulty v vs (t ∷ a) c f m g = f
   stops_over faulty v [] [] c f m g = g
   stops_over faulty v (w ∷ vs) [] c f m g = absurd (not_empty w m.prefix m.suffix m.first (sym m.whole))
+
+  pub free_over : (v : V) (vs : List V) (a c : List Lexeme) → Free (continues v) a → Members spells continues vs a → Free (λ t. LastGoesOn continues (v ∷ vs) t) c → Free (continues v) (a ++ c)
+  free_over v vs a c f m g = Free-from_NextStops (continues v) false (a ++ c) (stops_over false v vs a c f m (NextStops-from_Free (λ t. LastGoesOn continues (v ∷ vs) t) c g))
 
   pub last_later : (v : V) (vs : List V) (t : Lexeme) → LastGoesOn continues vs t → LastGoesOn continues (v ∷ vs) t
   last_later v [] t h = absurd h

@@ -9,8 +9,8 @@ ghost use Rattle.souper_errors.specs.Errors.{widened};
 ghost use Rattle.souper_ir.specs.Reading.{Gives};
 ghost use Rattle.souper_ir.specs.NodeReadings.{bits_kind, sign_bits_kind, range_kind, accept, is_mark, int_by, ident_by, attribute_kind_of_word, attribute_kind_of, attribute_by, attribute_at, root_kind_of_word, root_attribute_by, root_attribute_at};
 ghost use Rattle.souper_ir.specs.AttributeView.{view_kind};
-ghost use Rattle.souper_ir.specs.Laws.FromReadings.{one_alone};
-ghost use Rattle.souper_ir.specs.Laws.Attributes.{attribute_complete, attribute_first, root_attribute_complete, root_attribute_first};
+ghost use Rattle.souper_ir.specs.Laws.FromReadings.{alone as one_alone};
+ghost use Rattle.souper_ir.specs.Laws.Attributes.{attribute_rule, attribute_first, root_attribute_rule, root_attribute_first};
 
 use crate::parse::message::Message;
 use crate::parse::numbers::{bits, known_bits};
@@ -208,7 +208,7 @@ impl Parse for Attribute {
 
     ghost continues = { λ a t. ⊥ };
 
-    ghost alone = { one_alone (λ s. attribute_form) (λ a t. ⊥) attribute_at attribute_complete };
+    ghost alone = { one_alone attribute_rule };
 
     fn parse<'a>(parser: &mut Parser<'a>) -> Result<Self> {
         widen(attribute(parser))
@@ -237,7 +237,7 @@ impl Parse for RootAttribute {
 
     ghost continues = { λ a t. ⊥ };
 
-    ghost alone = { one_alone (λ s. root_attribute_form) (λ a t. ⊥) root_attribute_at root_attribute_complete };
+    ghost alone = { one_alone root_attribute_rule };
 
     fn parse<'a>(parser: &mut Parser<'a>) -> Result<Self> {
         widen(root_attribute(parser))

@@ -6,8 +6,8 @@ ghost use Rattle.souper_ir.specs.Reading.{Gives};
 ghost use Rattle.souper_graph.specs.Syntax.Spelling.{type as type_form, operand as operand_form, constant as constant_form};
 ghost use Rattle.souper_ir.specs.Continuation.{constant_continues, operand_continues};
 ghost use Rattle.souper_ir.specs.NodeReadings.{is_int, type_at, optional_type_at, constant_at, named_operand_at, operand_by, operand_at, next_operand_at, further_at};
-ghost use Rattle.souper_ir.specs.Laws.FromReadings.{one_alone};
-ghost use Rattle.souper_ir.specs.Laws.Operands.{type_complete, constant_complete, constant_first, operand_complete};
+ghost use Rattle.souper_ir.specs.Laws.FromReadings.{alone as one_alone};
+ghost use Rattle.souper_ir.specs.Laws.Operands.{type_rule, constant_rule, constant_first, operand_rule};
 
 use crate::parse::message::Message;
 use crate::parse::numbers::width;
@@ -135,7 +135,7 @@ impl Parse for Type {
 
     ghost continues = { λ t u. ⊥ };
 
-    ghost alone = { one_alone (λ s. type_form) (λ t u. ⊥) type_at type_complete };
+    ghost alone = { one_alone type_rule };
 
     fn parse<'a>(parser: &mut Parser<'a>) -> Result<Self> {
         widen(type_alone(parser))
@@ -151,7 +151,7 @@ impl Parse for Constant {
 
     ghost continues = { constant_continues };
 
-    ghost alone = { one_alone (λ s. constant_form) constant_continues constant_at constant_complete };
+    ghost alone = { one_alone constant_rule };
 
     fn parse<'a>(parser: &mut Parser<'a>) -> Result<Self> {
         widen(constant(parser))
@@ -180,7 +180,7 @@ impl Parse for Operand {
 
     ghost continues = { operand_continues };
 
-    ghost alone = { one_alone operand_form operand_continues operand_at operand_complete };
+    ghost alone = { one_alone operand_rule };
 
     fn parse<'a>(parser: &mut Parser<'a>) -> Result<Self> {
         widen(operand(parser))

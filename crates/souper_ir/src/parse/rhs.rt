@@ -10,8 +10,9 @@ ghost use Rattle.souper_graph.specs.Syntax.Spelling.{rhs as rhs_form};
 ghost use Rattle.souper_ir.specs.Continuation.{phi_continues, instruction_continues, rhs_continues};
 ghost use Rattle.souper_ir.specs.NodeReadings.{accept, ident_by, is_word, starts_instruction, block_after_word_at, block_node_at, block_name_at, phi_after_word_at, phi_at, instruction_at, instruction_of_at, rhs_word_at, rhs_at};
 ghost use Rattle.souper_ir.specs.Words.{opcode_of};
-ghost use Rattle.souper_ir.specs.Laws.FromReadings.{one_alone};
-ghost use Rattle.souper_ir.specs.Laws.RightSides.{block_complete, block_first, phi_complete, phi_first, instruction_complete, instruction_first, rhs_complete};
+ghost use Rattle.souper_ir.specs.Laws.FromReadings.{alone as one_alone};
+ghost use Rattle.souper_ir.specs.Laws.Tokens.{word_first};
+ghost use Rattle.souper_ir.specs.Laws.RightSides.{block_rule, phi_rule, instruction_rule, instruction_first, rhs_rule};
 
 use crate::parse::message::Message;
 use crate::parse::operands::{further, next_operand, operand};
@@ -163,7 +164,7 @@ impl Parse for Block {
 
     ghost continues = { λ b t. ⊥ };
 
-    ghost alone = { one_alone (λ s b. rhs_form s (block_value b)) (λ b t. ⊥) block_node_at block_complete };
+    ghost alone = { one_alone block_rule };
 
     fn parse<'a>(parser: &mut Parser<'a>) -> Result<Self> {
         widen(block(parser))
@@ -173,7 +174,7 @@ impl Parse for Block {
 impl Peek for Block {
     ghost starts = { is_word (codes "block") };
 
-    ghost first = { block_first };
+    ghost first = { λ s b ts h. word_first (codes "block") ts h };
 
     ghost stays = { λ s. refl };
 
@@ -192,7 +193,7 @@ impl Parse for Phi {
 
     ghost continues = { phi_continues };
 
-    ghost alone = { one_alone (λ s p. rhs_form s (phi_value p)) phi_continues phi_at phi_complete };
+    ghost alone = { one_alone phi_rule };
 
     fn parse<'a>(parser: &mut Parser<'a>) -> Result<Self> {
         widen(phi(parser))
@@ -202,7 +203,7 @@ impl Parse for Phi {
 impl Peek for Phi {
     ghost starts = { is_word (codes "phi") };
 
-    ghost first = { phi_first };
+    ghost first = { λ s p ts h. word_first (codes "phi") ts h };
 
     ghost stays = { λ s. refl };
 
@@ -220,7 +221,7 @@ impl Parse for Instruction {
 
     ghost continues = { instruction_continues };
 
-    ghost alone = { one_alone (λ s i. rhs_form s (instruction i)) instruction_continues instruction_at instruction_complete };
+    ghost alone = { one_alone instruction_rule };
 
     fn parse<'a>(parser: &mut Parser<'a>) -> Result<Self> {
         widen(instruction(parser))
@@ -252,7 +253,7 @@ impl Parse for AssignmentRhs {
 
     ghost continues = { rhs_continues };
 
-    ghost alone = { one_alone rhs_form rhs_continues rhs_at rhs_complete };
+    ghost alone = { one_alone rhs_rule };
 
     fn parse<'a>(parser: &mut Parser<'a>) -> Result<Self> {
         widen(rhs(parser))

@@ -14,7 +14,9 @@ ghost use Rattle.souper_names.specs.HashView.{name_hash};
 ghost use Rattle.souper_ir.specs.NodeReadings.{is_name, is_word, attribute_at, type_and_equals_at, heading_at, pc_at, block_pc_at, starts_statement};
 ghost use Rattle.souper_ir.specs.Stopping.{RowStops, Stops};
 ghost use Rattle.souper_ir.specs.Laws.Attributed.{Row, OneMore};
-ghost use Rattle.souper_ir.specs.Laws.Statements.{assignment_alone, assignment_first, pc_alone, pc_first, block_pc_alone, block_pc_first, statement_alone, statement_first};
+ghost use Rattle.souper_ir.specs.Laws.FromReadings.{alone as one_alone};
+ghost use Rattle.souper_ir.specs.Laws.Tokens.{word_first};
+ghost use Rattle.souper_ir.specs.Laws.Statements.{assignment_laws, assignment_first, pc_rule, block_pc_rule, statement_alone, statement_first};
 
 use crate::parse::attributes::attribute;
 use crate::parse::message::Message;
@@ -151,7 +153,7 @@ impl Parse for Assignment {
 
     ghost continues = { assignment_continues };
 
-    ghost alone = { assignment_alone };
+    ghost alone = { assignment_laws.alone };
 
     fn parse<'a>(parser: &mut Parser<'a>) -> Result<Self> {
         widen(assignment(parser))
@@ -180,7 +182,7 @@ impl Parse for Pc {
 
     ghost continues = { pc_continues };
 
-    ghost alone = { pc_alone };
+    ghost alone = { one_alone pc_rule };
 
     fn parse<'a>(parser: &mut Parser<'a>) -> Result<Self> {
         widen(pc(parser))
@@ -190,7 +192,7 @@ impl Parse for Pc {
 impl Peek for Pc {
     ghost starts = { is_word (codes "pc") };
 
-    ghost first = { pc_first };
+    ghost first = { λ s p ts h. word_first (codes "pc") ts h };
 
     ghost stays = { λ s. refl };
 
@@ -210,7 +212,7 @@ impl Parse for BlockPc {
 
     ghost continues = { block_pc_continues };
 
-    ghost alone = { block_pc_alone };
+    ghost alone = { one_alone block_pc_rule };
 
     fn parse<'a>(parser: &mut Parser<'a>) -> Result<Self> {
         widen(block_pc(parser))
@@ -220,7 +222,7 @@ impl Parse for BlockPc {
 impl Peek for BlockPc {
     ghost starts = { is_word (codes "blockpc") };
 
-    ghost first = { block_pc_first };
+    ghost first = { λ s p ts h. word_first (codes "blockpc") ts h };
 
     ghost stays = { λ s. refl };
 

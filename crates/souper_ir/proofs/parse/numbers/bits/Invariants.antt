@@ -1,7 +1,7 @@
-use Rattle.std.proofs.Common.{◌≡◌, drop}
+use Rattle.std.proofs.Common.{◌≡◌, ◌++◌, drop, Some}
 use Rattle.souper_graph.specs.Syntax.Numbers.{all_of, bit_of}
-use Rattle.souper_ir.proofs.Nodes.BitLists.{joined}
+use Rattle.souper_graph.specs.Syntax.Optional.{◌>>=◌}
 use Rattle.souper_ir.proofs.parse.numbers.bits.Given as goal
 
 abbrev pub invariant-loop-byte : goal.invariant-loop-byte
-invariant-loop-byte l = all_of bit_of l.byte-items ≡ joined l.bits.items (all_of bit_of (drop l.byte-index l.byte-items))
+invariant-loop-byte l = all_of bit_of l.byte-items ≡ (all_of bit_of (drop l.byte-index l.byte-items) >>= λ bits. Some (l.bits.items ++ bits))

@@ -18,9 +18,5 @@ returns-then-is_some-clause-begun c =
 pub returns-clause-begun : goal.returns-clause-begun
 returns-clause-begun c =
     let live = live_inside c.self.inside.failed (subst (λ (p : Parsing). p.failed ≡ None) (sym c.self.view_is) c.requires) in
-    let new = is_new_in_table c.self.inside.names (map view_statement c.self.inside.statements) c.args.name.now c.find-entry.result.0 (c.self.invariant.names live) (c.find-entry.ensures.table c.if-slot.false) c.find-entry.ensures.entry (sym c.if-is_some.ensures) in (
-      begun c.args.name.now c.args.self.now (subst (λ (p : Parsing). position_of p.scope c.args.name.now ≡ None) c.self.view_is new),
-      c.requires,
-      c.requires,
-      refl,
-    )
+    let new = is_new_in_table c.self.inside.names (map view_statement c.self.inside.statements) c.args.name.now c.find-entry.result.0 (c.self.invariant.names live) (c.find-entry.ensures.table c.if-slot.false) c.find-entry.ensures.entry (sym c.if-is_some.ensures) in
+    begun c.args.name.now c.args.self.now c.args.self.now refl c.requires (subst (λ (p : Parsing). position_of p.scope c.args.name.now ≡ None) c.self.view_is new)

@@ -1,11 +1,10 @@
-use Rattle.std.proofs.Common.{◌≡◌, Option, Some, None, Ok, refl, sym, ◌∙◌, ap, subst}
+use Rattle.std.proofs.Common.{◌≡◌, Option, Some, None, refl, sym, ◌∙◌, ap, subst}
 use Rattle.std.specs.Prelude.{is_some, map}
 use Rattle.std.proofs.lemmas.List.{length-map}
 use Rattle.souper_graph.specs.View.{view_statement}
 use Rattle.souper_graph.specs.Syntax.Spelling.{position_of}
 use Rattle.souper_errors.specs.Errors.{error_of, at_end_of}
 use Rattle.souper_names.specs.TableView.{NameEntry}
-use Rattle.souper_ir.specs.NodeReadings.{new_name_at}
 use Rattle.souper_ir.specs.Parsing.{Parsing}
 use Rattle.souper_ir.specs.Reading.{cause_of}
 use Rattle.souper_ir.proofs.Nodes.Failing.{refused_for, fails_first}
@@ -27,24 +26,14 @@ returns-then-is_some c =
 pub returns-in-Ok-None : goal.returns-in-Ok-None
 returns-in-Ok-None c =
     let live = live_inside c.self.inside.failed (subst (λ (p : Parsing). p.failed ≡ None) (sym c.self.view_is) c.requires) in
-    let new = is_new c.self.inside.names (map view_statement c.self.inside.statements) c.args.name.now None (c.self.invariant.names live) (sym (sym c.in-Ok-None.field-0-is ∙ c.in-Ok-None.ensures.replaced)) refl in (
-      subst (λ (q : Parsing). new_name_at c.args.name.now c.args.self.now ≡ Ok (tt, q)) (sym c.self.view_is)
-          (begun c.args.name.now c.args.self.now (subst (λ (p : Parsing). position_of p.scope c.args.name.now ≡ None) c.self.view_is new)),
-      c.requires,
-      subst (λ (p : Parsing). p.failed ≡ None) (sym c.self.view_is) c.requires,
-      ap (λ (p : Parsing). p.len) c.self.view_is,
-    )
+    let new = is_new c.self.inside.names (map view_statement c.self.inside.statements) c.args.name.now None (c.self.invariant.names live) (sym (sym c.in-Ok-None.field-0-is ∙ c.in-Ok-None.ensures.replaced)) refl in
+    begun c.args.name.now _ c.args.self.now c.self.view_is c.requires new
 
 pub returns-else-is_some : goal.returns-else-is_some
 returns-else-is_some c =
     let live = live_inside c.self.inside.failed (subst (λ (p : Parsing). p.failed ≡ None) (sym c.self.view_is) c.requires) in
-    let new = is_new c.self.inside.names (map view_statement c.self.inside.statements) c.args.name.now c.in-Ok.replaced (c.self.invariant.names live) (sym c.in-Ok.ensures.replaced) (sym (c.if-is_some.ensures ∙ ap (λ (o : Option NameEntry). is_some o) c.in_scope.ensures)) in (
-      subst (λ (q : Parsing). new_name_at c.args.name.now c.args.self.now ≡ Ok (tt, q)) (sym c.self.view_is)
-          (begun c.args.name.now c.args.self.now (subst (λ (p : Parsing). position_of p.scope c.args.name.now ≡ None) c.self.view_is new)),
-      c.requires,
-      subst (λ (p : Parsing). p.failed ≡ None) (sym c.self.view_is) c.requires,
-      ap (λ (p : Parsing). p.len) c.self.view_is,
-    )
+    let new = is_new c.self.inside.names (map view_statement c.self.inside.statements) c.args.name.now c.in-Ok.replaced (c.self.invariant.names live) (sym c.in-Ok.ensures.replaced) (sym (c.if-is_some.ensures ∙ ap (λ (o : Option NameEntry). is_some o) c.in_scope.ensures)) in
+    begun c.args.name.now _ c.args.self.now c.self.view_is c.requires new
 
 pub invariant_of-self : goal.invariant_of-self
 invariant_of-self c = record {
