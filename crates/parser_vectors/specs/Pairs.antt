@@ -11,7 +11,7 @@ use Rattle.souper_ir.specs.Laws.Unique.{Alone}
 use Rattle.souper_ir.specs.Laws.Operands.{constant_rule, constant_first}
 use Rattle.souper_ir.specs.Laws.FromReadings.{alone}
 use Rattle.souper_ir.specs.Laws.Sequence.{Split, both_alone}
-use Rattle.souper_ir.specs.Laws.Items.{starts_ahead}
+use Rattle.souper_ir.specs.Laws.Series.{starts_ahead}
 use Rattle.parser_vectors.specs.declared.pairs.Pair.{Pair}
 
 -- the first constant, and then the second

@@ -5,8 +5,7 @@ use Rattle.std.specs.Str.{IsUtf8}
 use Rattle.souper_graph.specs.Syntax.Tokens.{IsOneLine}
 use Rattle.souper_graph.specs.Syntax.Spelling.{ItemType}
 use Rattle.souper_errors.specs.Places.{IsLines}
-use Rattle.souper_ir.proofs.Items.Joining.{newline_last}
-use Rattle.souper_ir.proofs.Items.Parting.{parted_twice, lines_end}
+use Rattle.souper_ir.proofs.Items.Joining.{newline_last, parted_twice, lines_end}
 use Rattle.souper_calls.specs.Kinds.{type_of_number}
 use Rattle.souper_stream.specs.Segments.{HasBadLine}
 use Rattle.souper_stream.proofs.Cutting.{utf8_has_no_bad_line}

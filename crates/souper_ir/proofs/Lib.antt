@@ -1,3 +1,4 @@
+pub mod Exits
 pub mod Scope
 pub mod Nodes
 pub mod Items

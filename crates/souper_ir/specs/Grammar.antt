@@ -80,15 +80,31 @@ LastGoesOn continues (v ∷ (w ∷ vs)) t = LastGoesOn continues (w ∷ vs) t
 abbrev pub ListGoesOn : {V : Type 0} → (V → Lexeme → Type 0) → (Lexeme → Bool) → List V → Lexeme → Type 0
 ListGoesOn continues starts vs t = (starts t ≡ true) ⊎ LastGoesOn continues vs t
 
--- members, and then a fault, or a token that starts one more though none is spelled
-pub record Stuck {V : Type 0} (spells : V → List Lexeme → Type 0) (continues : V → Lexeme → Type 0) (starts : Lexeme → Bool) (faulty : Bool) (ts : List Lexeme) : Type 0 where
+-- the tokens taken spell the members, and the next does not continue the last
+pub record TookAll {V : Type 0} (spells : Scope → List V → List Lexeme → Type 0) (continues : V → Lexeme → Type 0) (leaves : Scope → List V → Scope) (vs : List V) (old new : Parsing) : Type 0 where
+  pub used : List (ℕ × Lexeme)
+  pub parts : old.tokens ≡ used ++ new.tokens
+  pub spelled : spells old.scope vs (kinds used)
+  pub free : Free (λ t. LastGoesOn continues vs t) (kinds new.tokens)
+  pub state : new ≡ record old { tokens = new.tokens; scope = leaves old.scope vs }
+
+-- a fault comes, or a token that starts a value though none is spelled
+abbrev pub NoneStarted : {V : Type 0} → (V → List Lexeme → Type 0) → (V → Lexeme → Type 0) → (Lexeme → Bool) → Bool → List Lexeme → Type 0
+NoneStarted spells continues starts faulty ts = ((ts ≡ []) × (faulty ≡ true)) ⊎ (Starts starts ts × NoFrontOf spells continues faulty ts)
+
+-- members, and then what next says of them and of the tokens that are left
+pub record StuckAt {V : Type 0} (spells : List V → List Lexeme → Type 0) (continues : V → Lexeme → Type 0) (next : List V → List Lexeme → Type 0) (ts : List Lexeme) : Type 0 where
   pub members : List V
   pub front : List Lexeme
   pub rest : List Lexeme
   pub parts : ts ≡ front ++ rest
-  pub spelled : Members spells continues members front
+  pub spelled : spells members front
   pub free : Free (λ t. LastGoesOn continues members t) rest
-  pub next : ((rest ≡ []) × (faulty ≡ true)) ⊎ (Starts starts rest × NoFrontOf spells continues faulty rest)
+  pub stuck : next members rest
+
+-- members, and then a fault, or a token that starts one more though none is spelled
+abbrev pub Stuck : {V : Type 0} → (V → List Lexeme → Type 0) → (V → Lexeme → Type 0) → (Lexeme → Bool) → Bool → List Lexeme → Type 0
+Stuck spells continues starts faulty ts = StuckAt (Members spells continues) continues (λ vs rest. NoneStarted spells continues starts faulty rest) ts
 
 -- ---- a value or none
 

@@ -1,22 +1,16 @@
 -- Definitions. Items that a parser takes, in sequence.
-use Rattle.std.specs.Prelude.{◌≡◌, ℕ, false, List, [], ◌++◌, None}
+use Rattle.std.specs.Prelude.{◌≡◌, false, List, [], None}
 use Rattle.souper_graph.specs.Values.{Item}
 use Rattle.souper_errors.specs.declared.error.ParseError.{ParseError}
-use Rattle.souper_graph.specs.Syntax.Tokens.{Lexeme}
 use Rattle.souper_graph.specs.Syntax.Spelling.{kinds, ItemType, items}
 use Rattle.souper_ir.specs.Continuation.{item_continues}
 use Rattle.souper_ir.specs.Parsing.{Parsing}
 use Rattle.souper_ir.specs.Reading.{cause_of, IfRefused, Fails}
-use Rattle.souper_ir.specs.Grammar.{Free, LastGoesOn}
+use Rattle.souper_ir.specs.Grammar.{TookAll}
 
--- items were taken, from an empty scope to an empty scope
-pub record ItemsTaken (k : ItemType) (xs : List Item) (p q : Parsing) : Type 0 where
-  pub used : List (ℕ × Lexeme)
-  pub parts : p.tokens ≡ used ++ q.tokens
-  pub spelled : items k xs (kinds used)
-  pub free : Free (λ t. LastGoesOn item_continues xs t) (kinds q.tokens)
-  pub state : q ≡ record p { tokens = q.tokens }
-  pub empty : p.scope ≡ []
+-- items were taken, each from an empty scope to an empty scope
+abbrev pub ItemsTaken : ItemType → List Item → Parsing → Parsing → Type 0
+ItemsTaken k xs p q = TookAll (λ s xs. items k xs) item_continues (λ s xs. []) xs p q
 
 -- the tokens up to the end of the text spell the items, and no fault follows
 pub record SpellsAll (k : ItemType) (xs : List Item) (p : Parsing) : Type 0 where

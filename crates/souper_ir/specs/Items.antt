@@ -1,5 +1,5 @@
 -- Definitions. Statements in sequence, what an item has after them, and when no item is spelled after them.
-use Rattle.std.specs.Prelude.{◌≡◌, ◌⊎◌, ℕ, Bool, true, false, List, [], ◌∷◌, ◌++◌, None}
+use Rattle.std.specs.Prelude.{◌≡◌, ◌⊎◌, Bool, true, false, List, [], ◌∷◌, ◌++◌, None}
 use Rattle.souper_graph.specs.Values.{PlainStatement, Ending, inferred, resulting, replaced, candidate, Item}
 use Rattle.souper_errors.specs.declared.error.ParseError.{ParseError}
 use Rattle.souper_graph.specs.Syntax.Tokens.{Lexeme}
@@ -8,7 +8,7 @@ use Rattle.souper_ir.specs.Continuation.{statement_continues, ending_continues}
 use Rattle.souper_ir.specs.NodeReadings.{starts_statement}
 use Rattle.souper_ir.specs.Parsing.{Parsing}
 use Rattle.souper_ir.specs.Reading.{cause_of, IfRefused, Fails}
-use Rattle.souper_ir.specs.Grammar.{Free, NextStops, Starts, Took, NoFrontOf, LastGoesOn}
+use Rattle.souper_ir.specs.Grammar.{Free, NextStops, Took, TookAll, NoFrontOf, NoneStarted, StuckAt}
 
 -- the token starts no statement and continues none
 abbrev pub EndsStatements : Lexeme → Type 0
@@ -55,12 +55,8 @@ abbrev pub Enters : Parsing → Parsing → Type 0
 Enters p q = (v : PlainStatement) × Entered v p q
 
 -- statements were taken, and entered into the scope
-pub record Stated (new : List PlainStatement) (p q : Parsing) : Type 0 where
-  pub used : List (ℕ × Lexeme)
-  pub parts : p.tokens ≡ used ++ q.tokens
-  pub spelled : statements p.scope new (kinds used)
-  pub free : Free (λ t. LastGoesOn statement_continues new t) (kinds q.tokens)
-  pub state : q ≡ record p { tokens = q.tokens; scope = p.scope ++ new }
+abbrev pub Stated : List PlainStatement → Parsing → Parsing → Type 0
+Stated new p q = TookAll statements statement_continues (λ s new. s ++ new) new p q
 
 -- no statement comes next, and no fault
 pub record AllStated (new : List PlainStatement) (p q : Parsing) : Type 0 where
@@ -74,22 +70,15 @@ TakesStatements p q = (new : List PlainStatement) × AllStated new p q
 
 -- no statement comes next, though a fault or the first token of one does
 abbrev pub NoStatement : Scope → Bool → List Lexeme → Type 0
-NoStatement s faulty ts = ((ts ≡ []) × (faulty ≡ true)) ⊎ (Starts starts_statement ts × NoFrontOf (statement s) statement_continues faulty ts)
+NoStatement s faulty ts = NoneStarted (statement s) statement_continues starts_statement faulty ts
 
 -- neither a statement comes next nor what ends the statements
 abbrev pub NoMore : {Y : Type 0} → (Scope → Y → List Lexeme → Type 0) → (Y → Lexeme → Type 0) → Scope → Bool → List Lexeme → Type 0
 NoMore tail continues s faulty ts = NoStatement s faulty ts ⊎ (Free (λ t. starts_statement t ≡ true) ts × NoFrontOf (tail s) continues faulty ts)
 
 -- statements, and after them what next says of their scope and of the tokens that are left
-pub record StuckAt (next : Scope → Bool → List Lexeme → Type 0) (s : Scope) (faulty : Bool) (ts : List Lexeme) : Type 0 where
-  pub members : List PlainStatement
-  pub front : List Lexeme
-  pub rest : List Lexeme
-  pub parts : ts ≡ front ++ rest
-  pub spelled : statements s members front
-  pub free : Free (λ t. LastGoesOn statement_continues members t) rest
-  pub stuck : next (s ++ members) faulty rest
+abbrev pub StatementsEnd : (Scope → Bool → List Lexeme → Type 0) → Scope → Bool → List Lexeme → Type 0
+StatementsEnd next s faulty ts = StuckAt (statements s) statement_continues (λ new rest. next (s ++ new) faulty rest) ts
 
-pub record StatedRefusal (e : ParseError) (p q : Parsing) : Type 0 where
-  pub failed : Fails e p q
-  pub stuck : IfRefused (cause_of e) (p.failed ≡ None → StuckAt NoStatement p.scope p.faulty (kinds p.tokens))
+abbrev pub StatedRefusal : ParseError → Parsing → Parsing → Type 0
+StatedRefusal e p q = Fails e p q × IfRefused (cause_of e) (p.failed ≡ None → StatementsEnd NoStatement p.scope p.faulty (kinds p.tokens))

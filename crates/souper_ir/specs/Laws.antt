@@ -14,4 +14,5 @@ pub mod Attributes
 pub mod Sequence
 pub mod Attributed
 pub mod Statements
+pub mod Series
 pub mod Items

@@ -1,14 +1,14 @@
 -- Lines and a text after them: together they have the tokens, and the items, of both.
 use Rattle.std.proofs.Common.{◌≡◌, ℕ, ◌+◌, ◌-◌, ◌<◌, ◌≤◌, Bool, true, false, ◌⊎◌, inl, inr, List, [], ◌∷◌, ◌++◌, length, refl, sym, ap, ◌∙◌, subst, arith, append_assoc, append-nil, length-append, drop}
 use Rattle.std.specs.Prelude.{◌==◌, codes}
-use Rattle.std.specs.List.{AllByRecursion}
-use Rattle.std.specs.Char.{is_ascii_alphabetic, is_ascii_digit}
+use Rattle.std.specs.Char.{is_ascii_digit}
 use Rattle.std.proofs.lemmas.Bool.Decides.{nat_tests}
 use Rattle.std.proofs.lemmas.Grind.{flat_map-append}
 use Rattle.souper_graph.specs.Names.{is_name_char}
 use Rattle.souper_graph.specs.Values.{Item}
 use Rattle.souper_graph.specs.Syntax.Tokens.{Lexeme, ident, val_name, known_bits, int, comma, colon, equals, open_paren, close_paren, open_bracket, spelling, known_bits_word, is_bit, begins_int, AllAre, IsLexeme, continues, Stops, Piece, piece_text, IsPiece, IsGap, IsOneLine, IsLastComment, IsLastGap, Begins, IsTextOf}
 use Rattle.souper_graph.specs.Syntax.Spelling.{kinds, ItemType, items}
+use Rattle.souper_graph.proofs.Judging.Closed.{All-both}
 use Rattle.souper_lexer.proofs.TokenFront.{spelled_some}
 use Rattle.souper_lexer.proofs.TokenLaws.{begins_length, begins_append}
 use Rattle.souper_errors.specs.Places.{IsLines}
@@ -21,36 +21,14 @@ one_line_from : (p : ℕ → Bool) (s : List ℕ) → ((c : ℕ) → p c ≡ tru
 one_line_from p [] f h = tt
 one_line_from p (c ∷ s) f h = (f c h.0, one_line_from p s f h.1)
 
-name_char_line : (c : ℕ) → is_name_char c ≡ true → (c == 10) ≡ false
-name_char_line c h = grind (arith, nat_tests)
-
-letter_line : (c : ℕ) → is_ascii_alphabetic c ≡ true → (c == 10) ≡ false
-letter_line c h = grind (arith, nat_tests)
-
-digit_line : (c : ℕ) → is_ascii_digit c ≡ true → (c == 10) ≡ false
-digit_line c h = grind (arith, nat_tests)
-
-int_line : (c : ℕ) → begins_int c ≡ true → (c == 10) ≡ false
-int_line c h = grind (arith, nat_tests)
-
-bit_line : (c : ℕ) → is_bit c ≡ true → (c == 10) ≡ false
-bit_line c h = grind (arith, nat_tests)
-
-sign_line : (c : ℕ) → c ≡ 37 → (c == 10) ≡ false
-sign_line c h = ap (λ (z : ℕ). z == 10) h
-
-one_line_append : (a b : List ℕ) → IsOneLine a → IsOneLine b → IsOneLine (a ++ b)
-one_line_append [] b p q = q
-one_line_append (c ∷ a) b p q = (p.0, one_line_append a b p.1 q)
-
 pub token_line : (t : Lexeme) → IsLexeme t → IsOneLine (spelling t)
 token_line (ident []) h = absurd h
-token_line (ident (c ∷ s)) h = (letter_line c h.0, one_line_from is_name_char s name_char_line h.1)
+token_line (ident (c ∷ s)) h = (let e = h.0 in grind (arith, nat_tests), one_line_from is_name_char s (λ x e. grind (arith, nat_tests)) h.1)
 token_line (val_name []) h = absurd h
-token_line (val_name (c ∷ s)) h = (sign_line c h.0, one_line_from is_name_char s name_char_line h.2)
-token_line (known_bits s) h = one_line_append known_bits_word (codes "=" ++ s) (refl, (refl, (refl, (refl, (refl, (refl, (refl, (refl, (refl, tt))))))))) (refl, one_line_from is_bit s bit_line h.1)
+token_line (val_name (c ∷ s)) h = (ap (λ (z : ℕ). z == 10) h.0, one_line_from is_name_char s (λ x e. grind (arith, nat_tests)) h.2)
+token_line (known_bits s) h = All-both (λ c. (c == 10) ≡ false) known_bits_word (codes "=" ++ s) (refl, (refl, (refl, (refl, (refl, (refl, (refl, (refl, (refl, tt))))))))) (refl, one_line_from is_bit s (λ x e. grind (arith, nat_tests)) h.1)
 token_line (int []) h = absurd h
-token_line (int (c ∷ s)) h = (int_line c h.0, one_line_from is_ascii_digit s digit_line h.1)
+token_line (int (c ∷ s)) h = (let e = h.0 in grind (arith, nat_tests), one_line_from is_ascii_digit s (λ x e. grind (arith, nat_tests)) h.1)
 token_line comma h = (refl, tt)
 token_line colon h = (refl, tt)
 token_line equals h = (refl, tt)
@@ -64,69 +42,81 @@ pub newline_last : (front : List ℕ) → IsOneLine (front ++ 10 ∷ []) → ⊥
 newline_last [] h = let e : true ≡ false = h.0 in absurd cc
 newline_last (c ∷ front) h = newline_last front h.1
 
+pub no_line_in : (r : List ℕ) → IsOneLine r → IsLines r → r ≡ []
+no_line_in r h (inl e) = e
+no_line_in r h (inr end) = absurd (newline_last end.0 (subst (λ (l : List ℕ). IsOneLine l) end.1 h))
+
+-- x ends inside r, or at its end
+pub record Within {A : Type 0} (x y r b : List A) : Type 0 where
+  pub left : List A
+  pub first : r ≡ x ++ left
+  pub second : y ≡ left ++ b
+
+-- x extends beyond r
+pub record Beyond {A : Type 0} (x y r b : List A) : Type 0 where
+  pub more : List A
+  pub some : 0 < length more
+  pub first : x ≡ r ++ more
+  pub second : b ≡ more ++ y
+
+pub parted_twice : {A : Type 0} (x y r b : List A) → x ++ y ≡ r ++ b → Within x y r b ⊎ Beyond x y r b
+parted_twice [] y r b e = inl (record { left = r; first = refl; second = e })
+parted_twice (c ∷ x) y [] b e = inr (record { more = c ∷ x; some = omega arith; first = refl; second = sym e })
+parted_twice (c ∷ x) y (d ∷ r) b e =
+    let tails : x ++ y ≡ r ++ b = cc in
+    elim (parted_twice x y r b tails) [
+      | inl h ↦ inl (record { left = h.left; first = cc; second = h.second })
+      | inr h ↦ inr (record { more = h.more; some = h.some; first = cc; second = h.second })
+    ]
+
+-- a suffix of lines is lines
+pub lines_end : (x s : List ℕ) → IsLines (x ++ s) → IsLines s
+lines_end x [] l = inl refl
+lines_end x (c ∷ s) (inl e) = let n = ap length e in let m = length-append x (c ∷ s) in absurd (omega arith)
+lines_end x (c ∷ s) (inr end) = under (parted_twice x (c ∷ s) end.0 (10 ∷ []) end.1)
+  where
+    under : Within x (c ∷ s) end.0 (10 ∷ []) ⊎ Beyond x (c ∷ s) end.0 (10 ∷ []) → IsLines (c ∷ s)
+    under (inl h) = inr (h.left, h.second)
+    under (inr h) = let n = ap length h.second in let m = length-append h.more (c ∷ s) in let k = h.some in absurd (omega arith)
+
 -- no lines end in a part that is not empty and has no newline
-no_newline_ends : (pre s front : List ℕ) → 0 < length s → IsOneLine s → pre ++ s ≡ front ++ 10 ∷ [] → ⊥
-no_newline_ends [] s front some h e = newline_last front (subst (λ (l : List ℕ). IsOneLine l) e h)
-no_newline_ends (p ∷ pre) s [] some h e = (let l = ap length e in let m = length-append pre s in absurd (omega arith))
-no_newline_ends (p ∷ pre) s (c ∷ front) some h e = no_newline_ends pre s front some h (ap (λ (l : List ℕ). drop 1 l) e)
-
 pub no_lines_end : (a pre s : List ℕ) → IsLines a → 0 < length s → IsOneLine s → a ≡ pre ++ s → ⊥
-no_lines_end a pre s (inl e) some h at = (let l = ap length (sym at ∙ e) in let m = length-append pre s in absurd (omega arith))
-no_lines_end a pre s (inr end) some h at = no_newline_ends pre s end.0 some h (sym at ∙ end.1)
+no_lines_end a pre s l some h at = let none = no_line_in s h (lines_end pre s (subst IsLines at l)) in omega (arith, ap length none)
 
--- ---- what a text begins with
+-- lines do not end in a token
+pub left_after : (t : Lexeme) (x : List ℕ) → IsLexeme t → IsLines (spelling t ++ x) → 0 < length x
+left_after t [] is l = absurd (no_lines_end (spelling t ++ []) [] (spelling t) l (spelled_some t is) (token_line t is) (append-nil (spelling t)))
+left_after t (y ∷ x) is l = omega arith
 
-parts : (ts : List (ℕ × Lexeme)) (n : ℕ) (bs rest : List ℕ) → Begins n bs ts rest → (pre : List ℕ) × (bs ≡ pre ++ rest)
-parts [] n bs rest h = ([], h)
-parts (t ∷ ts) n bs rest h =
-    let r = parts ts (t.0 + length (spelling t.1)) h.after rest h.more in (
-      h.gap ++ (spelling t.1 ++ r.0),
-      h.stands.text ∙ ap (λ (l : List ℕ). h.gap ++ (spelling t.1 ++ l)) r.1
-          ∙ ap (λ (l : List ℕ). h.gap ++ l) (sym (append_assoc (spelling t.1) r.0 rest)) ∙ sym (append_assoc h.gap (spelling t.1 ++ r.0) rest),
-    )
+-- what lines have after a gap
+after_gap : (n : ℕ) (bs rest : List ℕ) (t : ℕ × Lexeme) (ts : List (ℕ × Lexeme)) (h : Begins n bs (t ∷ ts) rest) → IsLines bs → IsLines (spelling t.1 ++ h.after)
+after_gap n bs rest t ts h l = lines_end h.gap (spelling t.1 ++ h.after) (subst IsLines h.stands.text l)
 
--- if nothing is left, the text is empty, or ends in a token
-record TokenLast (bs : List ℕ) : Type 0 where
-  pub pre : List ℕ
-  pub token : Lexeme
-  pub is_token : IsLexeme token
-  pub whole : bs ≡ pre ++ spelling token
+-- what is left of lines after their tokens is lines
+lines_left : (ts : List (ℕ × Lexeme)) (n : ℕ) (bs rest : List ℕ) → Begins n bs ts rest → IsLines bs → IsLines rest
+lines_left [] n bs rest h l = subst IsLines h l
+lines_left (t ∷ ts) n bs rest h l = lines_left ts (t.0 + length (spelling t.1)) h.after rest h.more (lines_end (spelling t.1) h.after (after_gap n bs rest t ts h l))
 
-nothing_left : (t : ℕ × Lexeme) (ts : List (ℕ × Lexeme)) (n : ℕ) (bs : List ℕ) → Begins n bs (t ∷ ts) [] → TokenLast bs
-nothing_left t [] n bs h = record {
-  pre = h.gap;
-  token = t.1;
-  is_token = h.stands.is_token;
-  whole = h.stands.text ∙ ap (λ (l : List ℕ). h.gap ++ (spelling t.1 ++ l)) h.more ∙ ap (λ (l : List ℕ). h.gap ++ l) (append-nil (spelling t.1));
-}
-nothing_left t (u ∷ ts) n bs h =
-    let r = nothing_left u ts (t.0 + length (spelling t.1)) h.after h.more in
-    record {
-      pre = h.gap ++ (spelling t.1 ++ r.pre);
-      token = r.token;
-      is_token = r.is_token;
-      whole = h.stands.text ∙ ap (λ (l : List ℕ). h.gap ++ (spelling t.1 ++ l)) r.whole
-          ∙ ap (λ (l : List ℕ). h.gap ++ l) (sym (append_assoc (spelling t.1) r.pre (spelling r.token))) ∙ sym (append_assoc h.gap (spelling t.1 ++ r.pre) (spelling r.token));
-    }
+some_left : (ts : List (ℕ × Lexeme)) (n : ℕ) (bs rest : List ℕ) → Begins n bs ts rest → IsLines bs → (ts ≡ [] → 0 < length bs) → 0 < length rest
+some_left [] n bs rest h l some = subst (λ (x : List ℕ). 0 < length x) h (some refl)
+some_left (t ∷ ts) n bs rest h l some =
+    let lines = after_gap n bs rest t ts h l in
+    some_left ts (t.0 + length (spelling t.1)) h.after rest h.more (lines_end (spelling t.1) h.after lines) (λ e. left_after t.1 h.after h.stands.is_token lines)
 
 -- of lines something is left after their tokens
 pub left_of_lines : (ts : List (ℕ × Lexeme)) (a rest : List ℕ) → IsLines a → Begins 0 a ts rest → (ts ≡ []) ⊎ (0 < length rest)
 left_of_lines [] a rest l h = inl refl
-left_of_lines (t ∷ ts) a [] l h =
-    let r = nothing_left t ts 0 a h in
-    absurd (no_lines_end a r.pre (spelling r.token) l (spelled_some r.token r.is_token) (token_line r.token r.is_token) r.whole)
-left_of_lines (t ∷ ts) a (c ∷ rest) l h = inr (omega arith)
+left_of_lines (t ∷ ts) a rest l h = inr (some_left (t ∷ ts) 0 a rest h l (λ e. absurd cc))
+
+pub comment_line : (last : List ℕ) → IsLastComment last → IsOneLine last
+comment_line [] c = tt
+comment_line (b ∷ s) c = (ap (λ (z : ℕ). z == 10) c.0, c.1)
 
 -- and it is a gap
 pub gap_of_lines : (ts : List (ℕ × Lexeme)) (a rest : List ℕ) → IsLines a → Begins 0 a ts rest → IsLastGap rest → IsGap rest
-gap_of_lines ts a rest l h g = under g.last g.is_last g.text
-  where
-    under : (last : List ℕ) → IsLastComment last → rest ≡ g.gap ++ last → IsGap rest
-    under [] c e = subst (λ (x : List ℕ). IsGap x) (sym (e ∙ append-nil g.gap)) g.is_gap
-    under (b ∷ s) c e =
-        let p = parts ts 0 a rest h in
-        let at : a ≡ (p.0 ++ g.gap) ++ (b ∷ s) = p.1 ∙ ap (λ (x : List ℕ). p.0 ++ x) e ∙ sym (append_assoc p.0 g.gap (b ∷ s)) in
-        absurd (no_lines_end a (p.0 ++ g.gap) (b ∷ s) l (omega arith) (ap (λ (z : ℕ). z == 10) c.0, c.1) at)
+gap_of_lines ts a rest l h g =
+    let none = no_line_in g.last (comment_line g.last g.is_last) (lines_end g.gap g.last (subst IsLines g.text (lines_left ts 0 a rest h l))) in
+    subst (λ (x : List ℕ). IsGap x) (sym (g.text ∙ ap (λ (x : List ℕ). g.gap ++ x) none ∙ append-nil g.gap)) g.is_gap
 
 -- ---- more after a text
 
@@ -166,12 +156,8 @@ begins_moved d (t ∷ ts) n bs rest h =
           (begins_moved d ts (t.0 + length (spelling t.1)) h.after rest h.more);
     }
 
-each_append : (ps qs : List Piece) → AllByRecursion IsPiece ps → AllByRecursion IsPiece qs → AllByRecursion IsPiece (ps ++ qs)
-each_append [] qs a b = b
-each_append (p ∷ ps) qs a b = (a.0, each_append ps qs a.1 b)
-
 pub gap_append : (x y : List ℕ) → IsGap x → IsGap y → IsGap (x ++ y)
-gap_append x y g h = (g.0 ++ h.0, each_append g.0 h.0 g.1 h.1, (λ i. g.2 i ++ h.2 i) ∙ sym (flat_map-append piece_text g.0 h.0))
+gap_append x y g h = (g.0 ++ h.0, All-both IsPiece g.0 h.0 g.1 h.1, (λ i. g.2 i ++ h.2 i) ∙ sym (flat_map-append piece_text g.0 h.0))
 
 -- a gap before the first token
 pub begins_later : (g : List ℕ) (t : ℕ × Lexeme) (ts : List (ℕ × Lexeme)) (n : ℕ) (bs rest : List ℕ) → IsGap g → Begins (n + length g) bs (t ∷ ts) rest → Begins n (g ++ bs) (t ∷ ts) rest

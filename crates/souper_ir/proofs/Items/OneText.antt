@@ -36,15 +36,13 @@ texts_exact k xs others h s = text_alone k (texts_of xs) others (map renumbered 
 pub texts_spell : (k : ItemType) (xs others : List Item) → AreWellFormed k xs → others ≡ map renumbered xs → TextSpells k (texts_of xs) others
 texts_spell k xs others h e = subst (TextSpells k (texts_of xs)) (sym e) (texts-read-back k xs h)
 
-heads : {A : Type 0} (x y : A) → x ∷ [] ≡ y ∷ [] → x ≡ y
-heads x y e = cc
-
 -- equal texts are texts of the same graph
 same_text_graph : (k : ItemType) (a b : Item) → IsWellFormedOf k a → IsWellFormedOf k b → text_of a ≡ text_of b → SameGraph a b
 same_text_graph k a b wa wb e =
     let texts : texts_of (b ∷ []) ≡ texts_of (a ∷ []) = ap (λ (t : List ℕ). (t ++ 10 ∷ []) ++ []) (sym e) in
     let read : TextSpells k (texts_of (a ∷ [])) (renumbered b ∷ []) = subst (λ (t : List ℕ). TextSpells k t (renumbered b ∷ [])) texts (texts-read-back k (b ∷ []) (wb, tt)) in
-    same-renumbered a b wa.0 wb.0 (heads (renumbered a) (renumbered b) (sym (texts_exact k (a ∷ []) (renumbered b ∷ []) (wa, tt) read)))
+    let whole : renumbered b ∷ [] ≡ renumbered a ∷ [] = texts_exact k (a ∷ []) (renumbered b ∷ []) (wa, tt) read in
+    same-renumbered a b wa.0 wb.0 (let same : renumbered a ≡ renumbered b = cc in same)
 
 pub one_text : (k : ItemType) (a b : Item) → IsWellFormedOf k a → IsWellFormedOf k b → (text_of a ≡ text_of b → SameGraph a b) × (SameGraph a b → text_of a ≡ text_of b)
 one_text k a b wa wb = (same_text_graph k a b wa wb, same-graph-text a b wa.0 wb.0)

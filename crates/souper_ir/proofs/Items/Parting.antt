@@ -1,5 +1,5 @@
 -- Lines and a text after them: the tokens that they have together are the tokens of each.
-use Rattle.std.proofs.Common.{◌≡◌, ℕ, ◌+◌, ◌<◌, Bool, ◌⊎◌, inl, inr, List, [], ◌∷◌, ◌++◌, length, refl, sym, ap, ◌∙◌, subst, arith, append_assoc, append-nil, length-append, get_or}
+use Rattle.std.proofs.Common.{◌≡◌, ℕ, ◌+◌, ◌<◌, Bool, false, ◌⊎◌, inl, inr, List, [], ◌∷◌, ◌++◌, length, refl, sym, ap, ◌∙◌, subst, arith, append_assoc, append-nil, length-append, get_or}
 use Rattle.std.specs.Prelude.{◌==◌, codes, flat_map}
 use Rattle.std.specs.List.{AllByRecursion}
 use Rattle.std.specs.Char.{encode_utf8}
@@ -9,71 +9,18 @@ use Rattle.souper_graph.specs.Syntax.Tokens.{Lexeme, spelling, continues, Stops,
 use Rattle.souper_lexer.proofs.TokenFront.{spelled_some}
 use Rattle.souper_errors.specs.Places.{IsLines}
 use Rattle.souper_ir.specs.Joining.{moved, TokensPart}
-use Rattle.souper_ir.proofs.Items.Joining.{newline_last, no_lines_end, token_line}
-
--- ---- lists that are parted twice
-
--- x ends inside r, or at its end
-pub record Within {A : Type 0} (x y r b : List A) : Type 0 where
-  pub left : List A
-  pub first : r ≡ x ++ left
-  pub second : y ≡ left ++ b
-
--- x extends beyond r
-pub record Beyond {A : Type 0} (x y r b : List A) : Type 0 where
-  pub more : List A
-  pub some : 0 < length more
-  pub first : x ≡ r ++ more
-  pub second : b ≡ more ++ y
-
-pub parted_twice : {A : Type 0} (x y r b : List A) → x ++ y ≡ r ++ b → Within x y r b ⊎ Beyond x y r b
-parted_twice [] y r b e = inl (record { left = r; first = refl; second = e })
-parted_twice (c ∷ x) y [] b e = inr (record { more = c ∷ x; some = omega arith; first = refl; second = sym e })
-parted_twice {A} (c ∷ x) y (d ∷ r) b e = under (parted_twice x y r b tails)
-  where
-    heads : c ≡ d
-    heads = cc
-
-    tails : x ++ y ≡ r ++ b
-    tails = cc
-
-    under : Within x y r b ⊎ Beyond x y r b → Within (c ∷ x) y (d ∷ r) b ⊎ Beyond (c ∷ x) y (d ∷ r) b
-    under (inl h) = inl (record { left = h.left; first = (λ i. sym heads i ∷ h.first i); second = h.second })
-    under (inr h) = inr (record { more = h.more; some = h.some; first = (λ i. heads i ∷ h.first i); second = h.second })
-
--- a suffix of lines is lines
-pub lines_end : (x s : List ℕ) → IsLines (x ++ s) → IsLines s
-lines_end x [] l = inl refl
-lines_end x (c ∷ s) (inl e) = let n = ap length e in let m = length-append x (c ∷ s) in absurd (omega arith)
-lines_end x (c ∷ s) (inr end) = under (parted_twice x (c ∷ s) end.0 (10 ∷ []) end.1)
-  where
-    under : Within x (c ∷ s) end.0 (10 ∷ []) ⊎ Beyond x (c ∷ s) end.0 (10 ∷ []) → IsLines (c ∷ s)
-    under (inl h) = inr (h.left, h.second)
-    under (inr h) = let n = ap length h.second in let m = length-append h.more (c ∷ s) in let k = h.some in absurd (omega arith)
+use Rattle.souper_graph.proofs.Judging.Closed.{All-first}
+use Rattle.souper_ir.proofs.Items.Joining.{no_line_in, comment_line, Within, Beyond, parted_twice, lines_end, left_after, token_line}
 
 -- ---- gaps
 
-one_line_front : (r s : List ℕ) → IsOneLine (r ++ s) → IsOneLine r
-one_line_front [] s h = tt
-one_line_front (c ∷ r) s h = (h.0, one_line_front r s h.1)
-
-no_line_in : (r : List ℕ) → IsOneLine r → IsLines r → r ≡ []
-no_line_in r h (inl e) = e
-no_line_in r h (inr end) = absurd (newline_last end.0 (subst (λ (l : List ℕ). IsOneLine l) end.1 h))
-
 comment_front : (t r s : List ℕ) → IsOneLine t → 59 ∷ (t ++ codes "\n") ≡ r ++ s → 0 < length s → IsOneLine r
-comment_front t r s one e some = under (parted_twice (59 ∷ t) (codes "\n") r s e)
-  where
-    whole : IsOneLine (59 ∷ t)
-    whole = (refl, one)
-
-    under : Within (59 ∷ t) (codes "\n") r s ⊎ Beyond (59 ∷ t) (codes "\n") r s → IsOneLine r
-    under (inl h) = nothing_left h.left h.first h.second
-      where
-        nothing_left : (left : List ℕ) → r ≡ (59 ∷ t) ++ left → codes "\n" ≡ left ++ s → IsOneLine r
-        nothing_left [] p q = subst (λ (l : List ℕ). IsOneLine l) (sym (p ∙ append-nil (59 ∷ t))) whole
-        nothing_left (c ∷ left) p q = let n = ap length q in let m = length-append left s in absurd (omega arith)
-    under (inr h) = one_line_front r h.more (subst (λ (l : List ℕ). IsOneLine l) h.first whole)
+comment_front t r s one e some =
+    let whole : IsOneLine (59 ∷ t) = (refl, one) in
+    elim (parted_twice r s (59 ∷ t) (codes "\n") (sym e)) [
+      | inl h ↦ All-first (λ c. (c == 10) ≡ false) r h.left (subst (λ (l : List ℕ). IsOneLine l) h.first whole)
+      | inr h ↦ let n = ap length h.second in let m = length-append h.more s in let k = h.some in absurd (omega arith)
+    ]
 
 -- a unit of a gap has no newline before its end
 piece_whole : (p : Piece) (r s : List ℕ) → IsPiece p → piece_text p ≡ r ++ s → 0 < length s → IsLines r → r ≡ []
@@ -108,33 +55,28 @@ no_pieces : (z r b : List ℕ) → z ≡ r ++ b → GapGoesOn z r b ⊎ GapEnds 
 no_pieces z [] b e = inl (record { is_gap = nil_gap; gap = []; goes_on = nil_gap; text = sym e })
 no_pieces z (c ∷ r) b e = inr (record { left = c ∷ r; some = omega arith; first = refl; second = e })
 
-gap_step : (p : Piece) (ps : List Piece) (z : List ℕ) (c : ℕ) (r b : List ℕ) → IsPiece p → AllByRecursion IsPiece ps → IsLines (c ∷ r)
-    → ((left : List ℕ) → IsLines left → flat_map piece_text ps ++ z ≡ left ++ b → GapGoesOn z left b ⊎ GapEnds (flat_map piece_text ps) z left b)
-    → Within (piece_text p) (flat_map piece_text ps ++ z) (c ∷ r) b ⊎ Beyond (piece_text p) (flat_map piece_text ps ++ z) (c ∷ r) b
-    → GapGoesOn z (c ∷ r) b ⊎ GapEnds (flat_map piece_text (p ∷ ps)) z (c ∷ r) b
-gap_step p ps z c r b is all l ih (inl w) = after (ih w.left (lines_end (piece_text p) w.left (subst (λ (x : List ℕ). IsLines x) w.first l)) w.second)
-  where
-    after : GapGoesOn z w.left b ⊎ GapEnds (flat_map piece_text ps) z w.left b → GapGoesOn z (c ∷ r) b ⊎ GapEnds (flat_map piece_text (p ∷ ps)) z (c ∷ r) b
-    after (inl h) = inl (record {
-      is_gap = (p ∷ h.is_gap.0, (is, h.is_gap.1), w.first ∙ ap (λ (x : List ℕ). piece_text p ++ x) h.is_gap.2);
-      gap = h.gap;
-      goes_on = h.goes_on;
-      text = h.text;
-    })
-    after (inr h) = inr (record {
-      left = h.left;
-      some = h.some;
-      first = w.first ∙ ap (λ (x : List ℕ). piece_text p ++ x) h.first ∙ sym (append_assoc (piece_text p) (flat_map piece_text ps) h.left);
-      second = h.second;
-    })
-gap_step p ps z c r b is all l ih (inr w) = let none : c ∷ r ≡ [] = piece_whole p (c ∷ r) w.more is w.first w.some l in absurd cc
-
 gap_parted : (ps : List Piece) (z r b : List ℕ) → AllByRecursion IsPiece ps → IsLines r → flat_map piece_text ps ++ z ≡ r ++ b → GapGoesOn z r b ⊎ GapEnds (flat_map piece_text ps) z r b
 gap_parted [] z r b all l e = no_pieces z r b e
 gap_parted (p ∷ ps) z [] b all l e = inl (record { is_gap = nil_gap; gap = flat_map piece_text (p ∷ ps); goes_on = (p ∷ ps, all, refl); text = sym e })
 gap_parted (p ∷ ps) z (c ∷ r) b all l e =
-    gap_step p ps z c r b all.0 all.1 l (λ left k m. gap_parted ps z left b all.1 k m)
-    (parted_twice (piece_text p) (flat_map piece_text ps ++ z) (c ∷ r) b (sym (append_assoc (piece_text p) (flat_map piece_text ps) z) ∙ e))
+    elim (parted_twice (piece_text p) (flat_map piece_text ps ++ z) (c ∷ r) b (sym (append_assoc (piece_text p) (flat_map piece_text ps) z) ∙ e)) [
+      | inl w ↦
+          elim (gap_parted ps z w.left b all.1 (lines_end (piece_text p) w.left (subst (λ (x : List ℕ). IsLines x) w.first l)) w.second) [
+            | inl h ↦ inl (record {
+              is_gap = (p ∷ h.is_gap.0, (all.0, h.is_gap.1), w.first ∙ ap (λ (x : List ℕ). piece_text p ++ x) h.is_gap.2);
+              gap = h.gap;
+              goes_on = h.goes_on;
+              text = h.text;
+            })
+            | inr h ↦ inr (record {
+              left = h.left;
+              some = h.some;
+              first = w.first ∙ ap (λ (x : List ℕ). piece_text p ++ x) h.first ∙ sym (append_assoc (piece_text p) (flat_map piece_text ps) h.left);
+              second = h.second;
+            })
+          ]
+      | inr w ↦ let none : c ∷ r ≡ [] = piece_whole p (c ∷ r) w.more all.0 w.first w.some l in absurd cc
+    ]
 
 -- ---- tokens
 
@@ -152,29 +94,24 @@ record Parted (n : ℕ) (r b : List ℕ) (us : List (ℕ × Lexeme)) : Type 0 wh
 
 -- the last gap is parted
 last_parted : (n : ℕ) (r b other : List ℕ) → IsLines r → r ++ b ≡ other → IsLastGap other → Parted n r b []
-last_parted n r b other l e g = under (gap_parted g.is_gap.0 g.last r b g.is_gap.1 l (ap (λ (x : List ℕ). x ++ g.last) (sym g.is_gap.2) ∙ sym g.text ∙ sym e))
-  where
-    no_comment : (left last : List ℕ) → IsLastComment last → IsLines left → 0 < length left → last ≡ left ++ b → ⊥
-    no_comment [] last c k some at = absurd (omega arith)
-    no_comment (x ∷ left) [] c k some at = cc
-    no_comment (x ∷ left) (y ∷ last) c k some at =
-        let one : IsOneLine (y ∷ last) = (ap (λ (z : ℕ). z == 10) c.0, c.1) in
-        let none : x ∷ left ≡ [] = no_line_in (x ∷ left) (one_line_front (x ∷ left) b (subst (λ (z : List ℕ). IsOneLine z) at one)) k in
-        absurd cc
-
-    under : GapGoesOn g.last r b ⊎ GapEnds (flat_map piece_text g.is_gap.0) g.last r b → Parted n r b []
-    under (inl h) = record {
-      ts = [];
-      vs = [];
-      rest = r;
-      other = b;
-      whole = refl;
-      front = refl;
-      is_gap = h.is_gap;
-      back = refl;
-      is_last = record { gap = h.gap; last = g.last; is_gap = h.goes_on; is_last = g.is_last; text = h.text };
-    }
-    under (inr h) = absurd (no_comment h.left g.last g.is_last (lines_end (flat_map piece_text g.is_gap.0) h.left (subst (λ (x : List ℕ). IsLines x) h.first l)) h.some h.second)
+last_parted n r b other l e g =
+    elim (gap_parted g.is_gap.0 g.last r b g.is_gap.1 l (ap (λ (x : List ℕ). x ++ g.last) (sym g.is_gap.2) ∙ sym g.text ∙ sym e)) [
+      | inl h ↦ record {
+        ts = [];
+        vs = [];
+        rest = r;
+        other = b;
+        whole = refl;
+        front = refl;
+        is_gap = h.is_gap;
+        back = refl;
+        is_last = record { gap = h.gap; last = g.last; is_gap = h.goes_on; is_last = g.is_last; text = h.text };
+      }
+      | inr h ↦
+          let lines = lines_end (flat_map piece_text g.is_gap.0) h.left (subst (λ (x : List ℕ). IsLines x) h.first l) in
+          let none = no_line_in h.left (All-first (λ c. (c == 10) ≡ false) h.left b (subst (λ (z : List ℕ). IsOneLine z) h.second (comment_line g.last g.is_last))) lines in
+          let some = h.some in absurd (omega (arith, ap length none))
+    ]
 
 stops_front : (p : ℕ → Bool) (w b : List ℕ) → 0 < length w → Stops p (w ++ b) → Stops p w
 stops_front p [] b some h = tt
@@ -204,11 +141,6 @@ token_later u us n r b other h g k =
       };
       is_last = g;
     }
-
--- lines do not end in a token
-left_after : (t : Lexeme) (x : List ℕ) → IsLexeme t → IsLines (spelling t ++ x) → 0 < length x
-left_after t [] is l = absurd (no_lines_end (spelling t ++ []) [] (spelling t) l (spelled_some t is) (token_line t is) (append-nil (spelling t)))
-left_after t (y ∷ x) is l = omega arith
 
 -- the token is in the lines
 token_inside : (u : ℕ × Lexeme) (us : List (ℕ × Lexeme)) (n : ℕ) (r b other left : List ℕ) (h : Begins n (r ++ b) (u ∷ us) other) → r ≡ h.gap ++ left → IsLines left
@@ -248,7 +180,7 @@ token_inside u us n r b other left h first k ih w =
 -- no token extends beyond the end of lines
 token_ends : (t : Lexeme) (after left b : List ℕ) → IsLexeme t → 0 < length left → IsLines left → Beyond (spelling t) after left b → ⊥
 token_ends t after left b is some l w =
-    let none : left ≡ [] = no_line_in left (one_line_front left w.more (subst (λ (x : List ℕ). IsOneLine x) w.first (token_line t is))) l in
+    let none : left ≡ [] = no_line_in left (All-first (λ c. (c == 10) ≡ false) left w.more (subst (λ (x : List ℕ). IsOneLine x) w.first (token_line t is))) l in
     omega (arith, ap length none)
 
 tokens_parted : (us : List (ℕ × Lexeme)) (n : ℕ) (r b other : List ℕ) → IsLines r → Begins n (r ++ b) us other → IsLastGap other → Parted n r b us

@@ -2,17 +2,15 @@
 use Rattle.std.proofs.Common.{◌≡◌, ℕ, List, [], ◌∷◌, ◌++◌, Option, Some, None, refl, sym, ◌∙◌, ap, subst, append_assoc}
 use Rattle.std.proofs.lemmas.List.{append-nil}
 use Rattle.std.specs.Prelude.{is_some, option_map}
-use Rattle.souper_graph.specs.Values.{PlainStatement, Item}
+use Rattle.souper_graph.specs.Values.{Item}
 use Rattle.souper_graph.specs.Syntax.Tokens.{Lexeme}
-use Rattle.souper_graph.specs.Syntax.Spelling.{kinds, ItemType, item_after, items, item}
+use Rattle.souper_graph.specs.Syntax.Spelling.{kinds, ItemType, item}
 use Rattle.souper_ir.specs.declared.parse.memory.Kept.{Kept}
 use Rattle.souper_ir.specs.declared.parse.memory.Memory.{Memory}
-use Rattle.souper_ir.specs.Continuation.{item_continues}
-use Rattle.souper_ir.specs.Grammar.{Took}
 use Rattle.souper_ir.specs.ItemRuns.{ItemsTaken}
 use Rattle.souper_ir.specs.Parsing.{Parsing}
 use Rattle.souper_ir.specs.Starts.{StartsAt, SpellEachFrom, TakesFrom, HasStarts, Keeps, starts_kept, starts_of}
-use Rattle.souper_ir.proofs.Items.Lists.{item_some}
+use Rattle.souper_ir.proofs.Items.Lists.{item_first, TookItem}
 
 -- one item more
 pub each_push : (k : ItemType) (items : List Item) (starts : List ℕ) (a : Item) (start : ℕ) (ts us : List (ℕ × Lexeme)) → SpellEachFrom k items starts ts → StartsAt start us → item k a (kinds us)
@@ -31,16 +29,13 @@ each_push k (b ∷ items) (n ∷ starts) a start ts us m at sp = record {
 
 -- an item begins where the tokens that are left begin
 pub starts_used : (k : ItemType) (a : Item) (start : ℕ) (used others ts : List (ℕ × Lexeme)) → ts ≡ used ++ others → item k a (kinds used) → StartsAt start ts → StartsAt start used
-starts_used k a start [] others ts e sp at = absurd (item_some k a [] [] sp refl)
+starts_used k a start [] others ts e sp at = absurd (item_first k a [] sp)
 starts_used k a start (t ∷ used) others ts e sp at = subst (λ (x : List (ℕ × Lexeme)). StartsAt start x) e at
 
 -- an item was taken after others
-pub begun : (k : ItemType) (items : List Item) (starts : List ℕ) (a : Item) (start : ℕ) (p q r : Parsing) (so : ItemsTaken k items p q) (took : Took (item_after k) item_continues (λ s. []) a q r)
+pub begun : (k : ItemType) (items : List Item) (starts : List ℕ) (a : Item) (start : ℕ) (p q r : Parsing) (so : ItemsTaken k items p q) (took : TookItem k a q r)
     → SpellEachFrom k items starts so.used → StartsAt start q.tokens → SpellEachFrom k (items ++ a ∷ []) (starts ++ start ∷ []) (so.used ++ took.used)
-begun k items starts a start p q r so took each at =
-    let scope : q.scope ≡ [] = ap (λ (x : Parsing). x.scope) so.state ∙ so.empty in
-    let sp : item k a (kinds took.used) = subst (λ (x : List PlainStatement). item_after k x a (kinds took.used)) scope took.spelled in
-    each_push k items starts a start so.used took.used each (starts_used k a start took.used r.tokens q.tokens took.parts sp at) sp
+begun k items starts a start p q r so took each at = each_push k items starts a start so.used took.used each (starts_used k a start took.used r.tokens q.tokens took.parts took.spelled at) took.spelled
 
 after_none : (starts : Option (List ℕ)) → starts ≡ option_map (λ before. before ++ []) starts
 after_none None = refl

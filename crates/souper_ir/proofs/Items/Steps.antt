@@ -6,7 +6,7 @@ use Rattle.souper_graph.specs.declared.ast.operands.Operand.{Operand}
 use Rattle.souper_graph.specs.Values.{PlainStatement, PlainInfer, PlainCand, inferred, resulting, replaced, candidate, Item}
 use Rattle.souper_errors.specs.declared.error.ParseError.{ParseError}
 use Rattle.souper_graph.specs.Syntax.Tokens.{Lexeme}
-use Rattle.souper_graph.specs.Syntax.Spelling.{kinds, Scope, statement, infer, cand, result, statements, ItemType, left_hand_side, right_hand_side, replacement, item_after, ◌·◌}
+use Rattle.souper_graph.specs.Syntax.Spelling.{kinds, Scope, Form, statement, infer, cand, result, statements, ItemType, left_hand_side, right_hand_side, replacement, item_after, ◌·◌}
 use Rattle.souper_ir.specs.Continuation.{statement_continues, infer_continues, cand_continues, result_continues, item_continues}
 use Rattle.souper_errors.specs.Errors.{at_end_of}
 use Rattle.souper_ir.specs.Parsing.{Parsing}
@@ -17,8 +17,9 @@ use Rattle.souper_ir.specs.NodeReadings.{is_word}
 use Rattle.souper_ir.specs.Laws.Peeks.{peeked, peeked_yes, peeked_no, none_if_unread}
 use Rattle.souper_ir.specs.Laws.Steps.{kinds-append}
 use Rattle.souper_ir.specs.Laws.Statements.{infer_first, infer_alone}
-use Rattle.souper_ir.specs.Items.{Tail, TailOf, tail_continues, Entered, Enters, AllStated, NoMore, StuckAt, StatedRefusal}
-use Rattle.souper_ir.specs.Laws.Items.{split, parted_item, item_parted, cand_is_no_infer, starts_ahead, replaced_begins, infer_over, result_opens, tail_opens, no_item, weaker, stuck_tail, failed_same, len_same}
+use Rattle.souper_ir.specs.Items.{Tail, TailOf, tail_continues, Entered, Enters, AllStated, NoMore, StatementsEnd, StatedRefusal}
+use Rattle.souper_ir.specs.Laws.Series.{split, starts_ahead, behind, later}
+use Rattle.souper_ir.specs.Laws.Items.{statement_series, parted_item, item_parted, cand_is_no_infer, replaced_begins, infer_over, result_opens, tail_opens, no_item, weaker, stuck_tail}
 
 abbrev TookInfer : PlainInfer → Parsing → Parsing → Type 0
 TookInfer i p q = Took infer infer_continues (λ s. s) i p q
@@ -54,23 +55,22 @@ item_taken k a new last p q m r so took all e =
     } in
     subst (λ (x : Parsing). Took (item_after k) item_continues (λ s. []) a p x) (sym e) whole
 
-none_if_stuck : (k : ItemType) (p : Parsing) → StuckAt (NoMore (TailOf k) tail_continues) p.scope p.faulty (kinds p.tokens) → NoFront (item_after k) item_continues p
+none_if_stuck : (k : ItemType) (p : Parsing) → StatementsEnd (NoMore (TailOf k) tail_continues) p.scope p.faulty (kinds p.tokens) → NoFront (item_after k) item_continues p
 none_if_stuck k p h a front rest e sp st =
     let m = parted_item k p.scope a front sp in
     let x = m.spelled in
-    no_item (TailOf k) tail_continues (tail_opens k) p.faulty p.scope h.members m.first h.front h.rest x.prefix x.suffix rest (m.last, a.ending)
-    (sym h.parts ∙ e ∙ split front x.prefix x.suffix rest x.whole) h.spelled h.free h.stuck x.first x.second st
+    no_item (TailOf k) tail_continues (tail_opens k) p.scope p.faulty (kinds p.tokens) m.first x.prefix x.suffix rest (m.last, a.ending) h (e ∙ split front x.prefix x.suffix rest x.whole) x.first x.second st
 
 pub statements_refused : (k : ItemType) (e : ParseError) (p q : Parsing) → StatedRefusal e p q → Refusal (item_after k) item_continues e p q
 statements_refused k e p q h = record {
-  failed = h.failed;
-  nothing = if_refused (cause_of e) (λ x live. none_if_stuck k p (weaker (TailOf k) tail_continues (tail_opens k) p.scope p.faulty (kinds p.tokens) (x live))) h.stuck;
+  failed = h.0;
+  nothing = if_refused (cause_of e) (λ x live. none_if_stuck k p (weaker (TailOf k) tail_continues (tail_opens k) p.scope p.faulty (kinds p.tokens) (x live))) h.1;
 }
 
 pub tail_refused : (k : ItemType) (new : List PlainStatement) (e : ParseError) (p q r : Parsing) → AllStated new p q → TailRefusal k e q r → Refusal (item_after k) item_continues e p r
 tail_refused k new e p q r so h = record {
-  failed = fails_later e p q r (failed_same new p q so.stated) (len_same new p q so.stated) h.failed;
-  nothing = if_refused (cause_of e) (λ x live. none_if_stuck k p (stuck_tail (TailOf k) tail_continues (tail_opens k) new p q so (x (failed_same new p q so.stated ∙ live)))) h.nothing;
+  failed = later statement_series new e p q r so.stated h.failed;
+  nothing = if_refused (cause_of e) (λ x live. none_if_stuck k p (stuck_tail (TailOf k) tail_continues (tail_opens k) new p q so (x (ap (λ (y : Parsing). y.failed) so.stated.state ∙ live)))) h.nothing;
 }
 
 -- ---- one last line
@@ -110,9 +110,8 @@ look_refused e p q h = record { failed = h.1; nothing = none_if_unread (TailOf r
 
 pub cand_tail : (c : PlainCand) (p h q : Parsing) → SeesInfer false p h → Took cand cand_continues (λ s. s) c h q → TookTail replacement ([], candidate c) p q
 cand_tail c p h q seen took =
-    let same = (peeked (is_word (codes "infer")) p h false seen.0).0 in
-    let whole : TookTail replacement ([], candidate c) h q = record { used = took.used; parts = took.parts; spelled = record { type_is = refl; lines = (refl, took.spelled) }; free = took.free; live = took.live; state = nothing_added h q took.state } in
-    subst (λ (x : Parsing). TookTail replacement ([], candidate c) x q) same whole
+    let t = behind (is_word (codes "infer")) c false p h q seen took in
+    record { used = t.used; parts = t.parts; spelled = record { type_is = refl; lines = (refl, t.spelled) }; free = t.free; live = t.live; state = nothing_added p q t.state }
 
 pub cand_tail_refused : (e : ParseError) (p h q : Parsing) → SeesInfer false p h → Refusal cand cand_continues e h q → TailRefusal replacement e p q
 cand_tail_refused e p h q seen bad =
@@ -146,21 +145,15 @@ root_refused e p h q seen bad =
     none st f (new, candidate c) front rest eq sp stop = cand_is_no_infer p.scope c front (kinds p.tokens) rest sp.lines.1 st eq
     none st f (new, _) front rest eq sp stop = let no = sp.type_is in absurd cc
 
-pub root_behind : (i : PlainInfer) (p h q : Parsing) → SeesInfer true p h → TookInfer i h q → TookInfer i p q
-root_behind i p h q seen took = subst (λ (x : Parsing). TookInfer i x q) (peeked (is_word (codes "infer")) p h true seen.0).0 took
-
 -- nothing is spelled if what follows the infer line is stuck
-none_behind : (p q : Parsing) (j : PlainInfer) → TookInfer j p q → StuckAt (NoMore result result_continues) q.scope q.faulty (kinds q.tokens) → NoFront (TailOf replacement) tail_continues p
+none_behind : (p q : Parsing) (j : PlainInfer) → TookInfer j p q → StatementsEnd (NoMore result result_continues) q.scope q.faulty (kinds q.tokens) → NoFront (TailOf replacement) tail_continues p
 none_behind p q j took stuck = none
   where
-    here : StuckAt (NoMore result result_continues) p.scope p.faulty (kinds q.tokens)
-    here = subst (λ (x : Parsing). StuckAt (NoMore result result_continues) x.scope x.faulty (kinds q.tokens)) took.state stuck
+    here : StatementsEnd (NoMore result result_continues) p.scope p.faulty (kinds q.tokens)
+    here = subst (λ (x : Parsing). StatementsEnd (NoMore result result_continues) x.scope x.faulty (kinds q.tokens)) took.state stuck
 
     parts : kinds p.tokens ≡ kinds took.used ++ kinds q.tokens
     parts = ap kinds took.parts ∙ kinds-append took.used q.tokens
-
-    starts : Starts (is_word (codes "infer")) (kinds p.tokens)
-    starts = subst (λ (x : List Lexeme). Starts (is_word (codes "infer")) x) (sym parts) (starts_ahead (is_word (codes "infer")) (kinds took.used) (kinds q.tokens) (infer_first p.scope j (kinds took.used) took.spelled))
 
     none : NoFront (TailOf replacement) tail_continues p
     none (new, replaced i r) front rest eq sp st =
@@ -169,32 +162,31 @@ none_behind p q j took stuck = none
         let whole : kinds took.used ++ kinds q.tokens ≡ x.prefix ++ (x.suffix ++ rest) = sym parts ∙ eq ∙ split front x.prefix x.suffix rest x.whole in
         let free = Free-from_NextStops (infer_continues i) p.faulty (x.suffix ++ rest) (rest_over p.faulty p.scope new i r x.suffix rest y) in
         let root = infer_alone p.scope j i (kinds took.used) x.prefix (kinds q.tokens) (x.suffix ++ rest) whole took.spelled x.first took.free free in
-        let behind : kinds q.tokens ≡ x.suffix ++ rest = append_cancel_left x.prefix (kinds q.tokens) (x.suffix ++ rest) (ap (λ (z : List Lexeme). z ++ kinds q.tokens) (sym root.0) ∙ whole) in
-        no_item result result_continues result_opens p.faulty p.scope here.members new here.front here.rest y.prefix y.suffix rest r
-        (sym here.parts ∙ behind ∙ split x.suffix y.prefix y.suffix rest y.whole) here.spelled here.free here.stuck y.first y.second st
-    none (new, candidate c) front rest eq sp st = cand_is_no_infer p.scope c front (kinds p.tokens) rest sp.lines.1 starts eq
+        let after : kinds q.tokens ≡ x.suffix ++ rest = append_cancel_left x.prefix (kinds q.tokens) (x.suffix ++ rest) (ap (λ (z : List Lexeme). z ++ kinds q.tokens) (sym root.0) ∙ whole) in
+        no_item result result_continues result_opens p.scope p.faulty (kinds q.tokens) new y.prefix y.suffix rest r here (after ∙ split x.suffix y.prefix y.suffix rest y.whole) y.first y.second st
+    none (new, candidate c) front rest eq sp st =
+        let starts = starts_ahead (is_word (codes "infer")) (kinds took.used) (kinds q.tokens) (infer_first p.scope j (kinds took.used) took.spelled) in
+        cand_is_no_infer p.scope c front (kinds took.used ++ kinds q.tokens) rest sp.lines.1 starts (sym parts ∙ eq)
     none (new, _) front rest eq sp st = let no = sp.type_is in absurd cc
-
-same_failed : (i : PlainInfer) (p q : Parsing) → TookInfer i p q → q.failed ≡ p.failed
-same_failed i p q took = ap (λ (x : Parsing). x.failed) took.state
-
-same_len : (i : PlainInfer) (p q : Parsing) → TookInfer i p q → q.len ≡ p.len
-same_len i p q took = ap (λ (x : Parsing). x.len) took.state
 
 pub middle_refused : (i : PlainInfer) (e : ParseError) (p q r : Parsing) → TookInfer i p q → StatedRefusal e q r → TailRefusal replacement e p r
 middle_refused i e p q r took h = record {
-  failed = fails_later e p q r (same_failed i p q took) (same_len i p q took) h.failed;
-  nothing = if_refused (cause_of e) (λ x live. none_behind p q i took (weaker result result_continues result_opens q.scope q.faulty (kinds q.tokens) (x (same_failed i p q took ∙ live)))) h.stuck;
+  failed = fails_later e p q r (ap (λ (x : Parsing). x.failed) took.state) (ap (λ (x : Parsing). x.len) took.state) h.0;
+  nothing = if_refused (cause_of e) (λ x live. none_behind p q i took (weaker result result_continues result_opens q.scope q.faulty (kinds q.tokens) (x (ap (λ (y : Parsing). y.failed) took.state ∙ live)))) h.1;
 }
 
 pub last_refused : (i : PlainInfer) (new : List PlainStatement) (e : ParseError) (p q m r : Parsing) → TookInfer i p q → AllStated new q m → Refusal result result_continues e m r → TailRefusal replacement e p r
 last_refused i new e p q m r took so h =
-    let failed : m.failed ≡ p.failed = failed_same new q m so.stated ∙ same_failed i p q took in
-    let len : m.len ≡ p.len = len_same new q m so.stated ∙ same_len i p q took in
+    let state : m ≡ record p { tokens = m.tokens; scope = q.scope ++ new } = so.stated.state ∙ ap (λ (x : Parsing). record x { tokens = m.tokens; scope = q.scope ++ new }) took.state in
+    let failed : m.failed ≡ p.failed = ap (λ (x : Parsing). x.failed) state in
     record {
-      failed = fails_later e p m r failed len h.failed;
+      failed = fails_later e p m r failed (ap (λ (x : Parsing). x.len) state) h.failed;
       nothing = if_refused (cause_of e) (λ x live. none_behind p q i took (stuck_tail result result_continues result_opens new q m so (x (failed ∙ live)))) h.nothing;
     }
+
+-- tokens of two parts
+joined_kinds : {F G : Form} (a b : List (ℕ × Lexeme)) → F (kinds a) → G (kinds b) → (F · G) (kinds (a ++ b))
+joined_kinds a b f g = record { prefix = kinds a; suffix = kinds b; whole = kinds-append a b; first = f; second = g }
 
 pub replaced_tail : (i : PlainInfer) (new : List PlainStatement) (r : Operand) (p q m n : Parsing) → TookInfer i p q → AllStated new q m → Took result result_continues (λ s. s) r m n → TookTail replacement (new, replaced i r) p n
 replaced_tail i new r p q m n root so last =
@@ -202,27 +194,12 @@ replaced_tail i new r p q m n root so last =
     let m_scope : m.scope ≡ p.scope ++ new = ap (λ (x : Parsing). x.scope) so.stated.state ∙ ap (λ (x : Scope). x ++ new) q_scope in
     let a : List (ℕ × Lexeme) = root.used in
     let b : List (ℕ × Lexeme) = so.stated.used in
-    let c : List (ℕ × Lexeme) = last.used in
-    let tokens : kinds (a ++ (b ++ c)) ≡ kinds a ++ (kinds b ++ kinds c) = kinds-append a (b ++ c) ∙ ap (λ (x : List Lexeme). kinds a ++ x) (kinds-append b c) in
+    let further : statements p.scope new (kinds b) = subst (λ (x : Scope). statements x new (kinds b)) q_scope so.stated.spelled in
+    let ended : result (p.scope ++ new) r (kinds last.used) = subst (λ (x : Scope). result x r (kinds last.used)) m_scope last.spelled in
     record {
-      used = a ++ (b ++ c);
-      parts = root.parts ∙ ap (λ (x : List (ℕ × Lexeme)). a ++ x) (so.stated.parts ∙ ap (λ (x : List (ℕ × Lexeme)). b ++ x) last.parts ∙ sym (append_assoc b c n.tokens)) ∙ sym (append_assoc a (b ++ c) n.tokens);
-      spelled = record {
-        type_is = refl;
-        lines = record {
-          prefix = kinds a;
-          suffix = kinds b ++ kinds c;
-          whole = tokens;
-          first = root.spelled;
-          second = record {
-            prefix = kinds b;
-            suffix = kinds c;
-            whole = refl;
-            first = subst (λ (x : Scope). statements x new (kinds b)) q_scope so.stated.spelled;
-            second = subst (λ (x : Scope). result x r (kinds c)) m_scope last.spelled;
-          };
-        };
-      };
+      used = a ++ (b ++ last.used);
+      parts = root.parts ∙ ap (λ (x : List (ℕ × Lexeme)). a ++ x) (so.stated.parts ∙ ap (λ (x : List (ℕ × Lexeme)). b ++ x) last.parts ∙ sym (append_assoc b last.used n.tokens)) ∙ sym (append_assoc a (b ++ last.used) n.tokens);
+      spelled = record { type_is = refl; lines = joined_kinds a (b ++ last.used) root.spelled (joined_kinds b last.used further ended) };
       free = last.free;
       live = root.live;
       state = last.state ∙ ap (λ (x : Parsing). record x { tokens = n.tokens }) so.stated.state ∙ ap (λ (x : Parsing). record x { tokens = n.tokens; scope = q.scope ++ new }) root.state

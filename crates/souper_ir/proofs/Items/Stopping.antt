@@ -1,7 +1,7 @@
 -- Where the reading of a text stops that is refused.
 use Rattle.std.proofs.Common.{◌≡◌, ℕ, Bool, true, false, List, [], ◌∷◌, None, Err, refl, sym, ◌∙◌, ap, subst, inl, inr}
 use Rattle.std.specs.Prelude.{codes, Option, Some}
-use Rattle.souper_graph.specs.Values.{PlainStatement, PlainInfer, PlainAttribute, PlainRootAttribute, Item}
+use Rattle.souper_graph.specs.Values.{PlainStatement, PlainInfer, Item}
 use Rattle.souper_graph.specs.declared.ast.operands.«Type».{«Type» as Ty}
 use Rattle.souper_graph.specs.Syntax.Tokens.{Lexeme, open_paren}
 use Rattle.souper_graph.specs.Syntax.TokenLaws.{AreTokensOf}
@@ -44,11 +44,11 @@ no_paren : (p : Parsing) (ended : Bool) → p.failed ≡ None → p.tokens ≡ [
 unfolding accept take_at
 no_paren p ended live none cut = rw (live, none, cut) refl
 
-no_attribute : (p : Parsing) (ended : Bool) → accept (as_mark open_paren) p ≡ Err ended → attribute_at p ≡ Err ended
+pub no_attribute : (p : Parsing) (ended : Bool) → accept (as_mark open_paren) p ≡ Err ended → attribute_at p ≡ Err ended
 unfolding attribute_at
 no_attribute p ended e = rw e refl
 
-no_root_attribute : (p : Parsing) (ended : Bool) → accept (as_mark open_paren) p ≡ Err ended → root_attribute_at p ≡ Err ended
+pub no_root_attribute : (p : Parsing) (ended : Bool) → accept (as_mark open_paren) p ≡ Err ended → root_attribute_at p ≡ Err ended
 unfolding root_attribute_at
 no_root_attribute p ended e = rw e refl
 
@@ -73,14 +73,6 @@ module _ {X : Type 0} (spells : X → List Lexeme → Type 0) (read : Parsing �
   member_stops xs e p q m r so seen h =
       let same = (peeked (is_mark open_paren) q m true seen.0).0 in
       if_refused (cause_of e) (λ bad live. row xs (at_end_of e) p q so (subst (λ (x : Parsing). read x ≡ Err (at_end_of e)) same bad)) h.0
-
-pub attributes_look : (xs : List PlainAttribute) (e : ParseError) (p q r : Parsing) → SoFar (λ s. attribute_form) (λ x t. ⊥) xs p q → IfRefused (cause_of e) (peek_at (is_mark open_paren) q ≡ Err (at_end_of e)) × Fails e q r
-    → Stops (RowStops attribute_form attribute_at) e p
-attributes_look = look_stops attribute_form attribute_at no_attribute
-
-pub root_attributes_look : (xs : List PlainRootAttribute) (e : ParseError) (p q r : Parsing) → SoFar (λ s. root_attribute_form) (λ x t. ⊥) xs p q → IfRefused (cause_of e) (peek_at (is_mark open_paren) q ≡ Err (at_end_of e)) × Fails e q r
-    → Stops (RowStops root_attribute_form root_attribute_at) e p
-root_attributes_look = look_stops root_attribute_form root_attribute_at no_root_attribute
 
 -- ---- lines
 
@@ -114,15 +106,12 @@ pc_stops e p q next h = if_refused (cause_of e) (λ bad live. inr (inl (next, ba
 pub block_pc_stops : (e : ParseError) (p q : Parsing) → NextIs BlockPc p → IfRefused (cause_of e) (block_pc_at p ≡ Err (at_end_of e)) × Fails e p q → Stops StatementStops e p
 block_pc_stops e p q next h = if_refused (cause_of e) (λ bad live. inr (inr (next, bad))) h.0
 
-live_after : (new : List PlainStatement) (p q : Parsing) → Stated new p q → p.failed ≡ None → q.failed ≡ None
-live_after new p q so live = ap (λ (x : Parsing). x.failed) so.state ∙ live
-
 pub next_stops : (new : List PlainStatement) (e : ParseError) (p q r : Parsing) → Stated new p q → IfRefused (cause_of e) (next_at q ≡ Err (at_end_of e)) × Fails e q r → Stops StatementsStop e p
 next_stops new e p q r so h = if_refused (cause_of e) (λ bad live. record { new = new; next = q; stated = so; stops = inl bad }) h.0
 
 pub statement_stops : (n : Next) (new : List PlainStatement) (e : ParseError) (p q m : Parsing) → Stated new p q → IsRead (next_at q) n q m → Stops StatementStops e m → Stops StatementsStop e p
 statement_stops n new e p q m so seen h =
-    if_refused (cause_of e) (λ bad live. record { new = new; next = q; stated = so; stops = inr (bad (live_after new p q so live)) })
+    if_refused (cause_of e) (λ bad live. record { new = new; next = q; stated = so; stops = inr (bad (ap (λ (x : Parsing). x.failed) so.state ∙ live)) })
     (subst (λ (x : Parsing). Stops StatementStops e x) (sym (next_stays q m n seen.0)) h)
 
 -- ---- items
@@ -131,7 +120,7 @@ pub first_stops : (line : Bool → Parsing → Type 0) (e : ParseError) (p : Par
 first_stops line e p h = if_refused (cause_of e) (λ bad live. inl (bad live)) h
 
 pub last_stops : (line : Bool → Parsing → Type 0) (new : List PlainStatement) (e : ParseError) (p q : Parsing) → AllStated new p q → Stops line e q → Stops (EitherStops line) e p
-last_stops line new e p q so h = if_refused (cause_of e) (λ bad live. inr (record { new = new; next = q; stated = so; stops = bad (live_after new p q so.stated live) })) h
+last_stops line new e p q so h = if_refused (cause_of e) (λ bad live. inr (record { new = new; next = q; stated = so; stops = bad (ap (λ (x : Parsing). x.failed) so.stated.state ∙ live) })) h
 
 pub result_stops : (e : ParseError) (p q : Parsing) → IfRefused (cause_of e) (result_at p ≡ Err (at_end_of e)) × Fails e p q → Stops ResultStops e p
 result_stops e p q h = if_refused (cause_of e) (λ bad live. bad) h.0

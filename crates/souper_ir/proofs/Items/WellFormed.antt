@@ -15,8 +15,9 @@ use Rattle.souper_graph.specs.WellFormed.{FitsOptionalType, FitsConstant, FitsOp
 use Rattle.souper_graph.specs.Unneeded.{EachClosed}
 use Rattle.souper_graph.specs.Syntax.Tokens.{Lexeme, val_name, spelling, IsLexeme, Begins}
 use Rattle.souper_graph.specs.Syntax.TokenLaws.{AreTokensOf}
-use Rattle.souper_graph.specs.Syntax.Spelling.{kinds, Scope, position_of, statement, infer, cand, ItemType, items, TextSpells, entry_of, ◌·◌, optional, of_type, constant, operand, further, operands, rhs, attribute, root_attribute, each, statements, lines, item, result}
+use Rattle.souper_graph.specs.Syntax.Spelling.{kinds, Scope, position_of, statement, infer, cand, ItemType, Form, items, TextSpells, entry_of, ◌·◌, optional, of_type, constant, operand, further, operands, rhs, attribute, root_attribute, each, statements, lines, item, result}
 use Rattle.souper_graph.proofs.Forms.Bits.{bits_means, known_bits_means}
+use Rattle.souper_graph.proofs.Judging.Closed.{All-first, All-second}
 use Rattle.souper_ir.specs.Parsing.{Parsing}
 use Rattle.souper_ir.specs.Laws.Steps.{kinds-append}
 use Rattle.souper_ir.proofs.Nodes.Limits.{number_fits, count_fits, width_fits}
@@ -26,14 +27,6 @@ use Rattle.souper_ir.proofs.Scope.Growing.{nothing_named, named_push, named_pass
 
 abbrev AllLexemes : List Lexeme → Type 0
 AllLexemes ts = AllByRecursion IsLexeme ts
-
-all_left : (a b : List Lexeme) → AllLexemes (a ++ b) → AllLexemes a
-all_left [] b h = tt
-all_left (t ∷ a) b h = (h.0, all_left a b h.1)
-
-all_right : (a b : List Lexeme) → AllLexemes (a ++ b) → AllLexemes b
-all_right [] b h = h
-all_right (t ∷ a) b h = all_right a b h.1
 
 begun : (n : ℕ) (bs : List ℕ) (ts : List (ℕ × Lexeme)) (rest : List ℕ) → Begins n bs ts rest → AllLexemes (kinds ts)
 begun n bs [] rest h = tt
@@ -105,17 +98,13 @@ attribute_fits (range low high) ts m =
     let y = x.second.second.first in
     (number_fits x.first.0 low x.first.2, number_fits y.0 high y.2)
 
-attributes_fit : (xs : List PlainAttribute) (ts : List Lexeme) → each attribute xs ts → AllByRecursion FitsAttribute xs
-attributes_fit [] ts m = tt
-attributes_fit (x ∷ xs) ts m = (attribute_fits x m.prefix m.first, attributes_fit xs m.suffix m.second)
+each_fits : {X : Type 0} (F : X → Form) (Fits : X → Type 0) → ((x : X) (ts : List Lexeme) → F x ts → Fits x) → (xs : List X) (ts : List Lexeme) → each F xs ts → AllByRecursion Fits xs
+each_fits F Fits fits [] ts m = tt
+each_fits F Fits fits (x ∷ xs) ts m = (fits x m.prefix m.first, each_fits F Fits fits xs m.suffix m.second)
 
 root_attribute_fits : (a : PlainRootAttribute) (ts : List Lexeme) → root_attribute a ts → FitsRootAttribute a
 root_attribute_fits (demanded_bits bits) ts m = let x = m.second.first.second.second in (bits_means x.0 bits x.2).1
 root_attribute_fits harvested_from_use ts m = tt
-
-root_attributes_fit : (xs : List PlainRootAttribute) (ts : List Lexeme) → each root_attribute xs ts → AllByRecursion FitsRootAttribute xs
-root_attributes_fit [] ts m = tt
-root_attributes_fit (x ∷ xs) ts m = (root_attribute_fits x m.prefix m.first, root_attributes_fit xs m.suffix m.second)
 
 -- ---- statements
 
@@ -134,7 +123,7 @@ statement_sits s (assigned a) ts l m =
       name_fits = name_lexeme a.name (subst AllLexemes (m.whole ∙ ap (λ (y : List Lexeme). y ++ m.suffix) m.first.0) l).0;
       type_fits = type_fits a.ty m.second.prefix m.second.first;
       value_fits = value.1;
-      attributes_fit = attributes_fit a.attributes x.suffix x.second;
+      attributes_fit = each_fits attribute FitsAttribute attribute_fits a.attributes x.suffix x.second;
     } in
     (value.0, fits, value.2)
 statement_sits s (condition p) ts l m =
@@ -184,9 +173,9 @@ stated_good : (s : Scope) (vs : List PlainStatement) (ts : List Lexeme) → AllL
 stated_good s [] ts l good m = subst IsGood (sym (append-nil s)) good
 stated_good s (v ∷ vs) ts l good m =
     let lexemes : AllLexemes (m.prefix ++ m.suffix) = subst AllLexemes m.whole l in
-    let sits = statement_sits s v m.prefix (all_left m.prefix m.suffix lexemes) m.first in
+    let sits = statement_sits s v m.prefix (All-first IsLexeme m.prefix m.suffix lexemes) m.first in
     subst IsGood (append_assoc s (v ∷ []) vs)
-    (stated_good (s ++ v ∷ []) vs m.suffix (all_right m.prefix m.suffix lexemes) (named_more s v m.prefix good.0 m.first, closed_push s v good.1 sits) m.second)
+    (stated_good (s ++ v ∷ []) vs m.suffix (All-second IsLexeme m.prefix m.suffix lexemes) (named_more s v m.prefix good.0 m.first, closed_push s v good.1 sits) m.second)
 
 -- ---- last lines
 
@@ -201,7 +190,7 @@ infer_reaches : (s : Scope) (i : PlainInfer) (ts : List Lexeme) → infer s i ts
 infer_reaches s i ts m = let named = m.second.first in one_reaches s (value_use i.value) [] (value_reaches s named.0 i.value named.2) (none_reach s)
 
 infer_fits : (s : Scope) (i : PlainInfer) (ts : List Lexeme) → infer s i ts → FitsInfer i
-infer_fits s i ts m = root_attributes_fit i.attributes m.second.suffix m.second.second
+infer_fits s i ts m = each_fits root_attribute FitsRootAttribute root_attribute_fits i.attributes m.second.suffix m.second.second
 
 replaced_met : (s new : Scope) (i : PlainInfer) (r : Operand) → AllReach s (value_use i.value ∷ []) → Sits (s ++ new) r → AreMet (s ++ new) (roots_of (replaced i r))
 replaced_met s new i r root sits u (inl e) = met_kept s new u (root u (inl e)).1
@@ -215,7 +204,7 @@ cand_ends s c ts m =
     let second = operand_sits s c.rhs y.prefix y.first in
     let roots : AllReach s (uses_of_operand c.lhs ++ uses_of_operand c.rhs) = both_reach s (uses_of_operand c.lhs) (uses_of_operand c.rhs) first.0 second.0 in (
       met s (roots_of (candidate c)) (both_reach s (uses_of_operand c.lhs ++ uses_of_operand c.rhs) [] roots (none_reach s)),
-      (first.1, second.1, root_attributes_fit c.attributes y.suffix y.second),
+      (first.1, second.1, each_fits root_attribute FitsRootAttribute root_attribute_fits c.attributes y.suffix y.second),
     )
 
 abbrev EndsGood : Scope → Ending → Type 0
@@ -224,28 +213,25 @@ EndsGood ss y = IsGood ss × Ends ss y
 -- the lines of an item
 lines_good : (vs : Scope) (y : Ending) (ts : List Lexeme) → AllLexemes ts → lines [] vs y ts → EndsGood vs y
 lines_good vs (inferred i) ts l m =
-    (stated_good [] vs m.prefix (all_left m.prefix m.suffix (subst AllLexemes m.whole l)) nothing_good m.first, (met vs (roots_of (inferred i)) (infer_reaches vs i m.suffix m.second), infer_fits vs i m.suffix m.second))
+    (stated_good [] vs m.prefix (All-first IsLexeme m.prefix m.suffix (subst AllLexemes m.whole l)) nothing_good m.first, (met vs (roots_of (inferred i)) (infer_reaches vs i m.suffix m.second), infer_fits vs i m.suffix m.second))
 lines_good vs (resulting r) ts l m =
     let x = m.second in
     let sits = operand_sits vs r x.suffix x.second in
-    (stated_good [] vs m.prefix (all_left m.prefix m.suffix (subst AllLexemes m.whole l)) nothing_good m.first, (met vs (roots_of (resulting r)) (both_reach vs (uses_of_operand r) [] sits.0 (none_reach vs)), sits.1))
+    (stated_good [] vs m.prefix (All-first IsLexeme m.prefix m.suffix (subst AllLexemes m.whole l)) nothing_good m.first, (met vs (roots_of (resulting r)) (both_reach vs (uses_of_operand r) [] sits.0 (none_reach vs)), sits.1))
 lines_good vs (replaced i r) ts l m =
     let x = m.3 in
     let y = x.second in
     let z = y.second in
     let all : AllLexemes (x.prefix ++ x.suffix) = subst AllLexemes x.whole l in
-    let behind : AllLexemes (y.prefix ++ y.suffix) = subst AllLexemes y.whole (all_right x.prefix x.suffix all) in
-    let middle : AllLexemes (z.prefix ++ z.suffix) = subst AllLexemes z.whole (all_right y.prefix y.suffix behind) in
-    let good = stated_good m.0 m.1 z.prefix (all_left z.prefix z.suffix middle) (stated_good [] m.0 x.prefix (all_left x.prefix x.suffix all) nothing_good x.first) z.first in
+    let behind : AllLexemes (y.prefix ++ y.suffix) = subst AllLexemes y.whole (All-second IsLexeme x.prefix x.suffix all) in
+    let middle : AllLexemes (z.prefix ++ z.suffix) = subst AllLexemes z.whole (All-second IsLexeme y.prefix y.suffix behind) in
+    let good = stated_good m.0 m.1 z.prefix (All-first IsLexeme z.prefix z.suffix middle) (stated_good [] m.0 x.prefix (All-first IsLexeme x.prefix x.suffix all) nothing_good x.first) z.first in
     let last : result (m.0 ++ m.1) r z.suffix = subst (λ (s : Scope). result s r z.suffix) m.2 z.second in
     let sits = operand_sits (m.0 ++ m.1) r last.suffix last.second in
     subst (λ (s : Scope). EndsGood s (replaced i r)) (sym m.2) (good, (replaced_met m.0 m.1 i r (infer_reaches m.0 i y.prefix y.first) sits, (infer_fits m.0 i y.prefix y.first, sits.1)))
-lines_good vs (candidate c) ts l m = (stated_good [] vs m.prefix (all_left m.prefix m.suffix (subst AllLexemes m.whole l)) nothing_good m.first, cand_ends vs c m.suffix m.second)
+lines_good vs (candidate c) ts l m = (stated_good [] vs m.prefix (All-first IsLexeme m.prefix m.suffix (subst AllLexemes m.whole l)) nothing_good m.first, cand_ends vs c m.suffix m.second)
 
 -- ---- items
-
-some_same : (p q : ℕ) (o : Option ℕ) → o ≡ Some p → o ≡ Some q → p ≡ q
-some_same p q o e f = let same : Some p ≡ Some q = sym e ∙ f in cc
 
 item_closed : (k : ItemType) (a : Item) (ts : List Lexeme) → AllLexemes ts → item k a ts → EachClosed a
 item_closed k a ts l m =
@@ -255,7 +241,7 @@ item_closed k a ts l m =
       ending_fits = whole.1.1;
       closed = whole.0.1;
       named_apart = λ p q v w ep eq same.
-          some_same p q (position_of a.statements v.name) (whole.0.0 p v ep) (subst (λ (x : List ℕ). position_of a.statements x ≡ Some q) (sym same) (whole.0.0 q w eq));
+          let both : Some p ≡ Some q = sym (whole.0.0 p v ep) ∙ ap (position_of a.statements) same ∙ whole.0.0 q w eq in cc;
     }
 
 pub closed_well : (a : Item) → EachClosed a → WellFormed a
@@ -270,7 +256,7 @@ all_closed : (k : ItemType) (xs : List Item) (ts : List Lexeme) → AllLexemes t
 all_closed k [] ts l m = tt
 all_closed k (a ∷ xs) ts l m =
     let lexemes : AllLexemes (m.prefix ++ m.suffix) = subst AllLexemes m.whole l in
-    (item_closed k a m.prefix (all_left m.prefix m.suffix lexemes) m.first, all_closed k xs m.suffix (all_right m.prefix m.suffix lexemes) m.second)
+    (item_closed k a m.prefix (All-first IsLexeme m.prefix m.suffix lexemes) m.first, all_closed k xs m.suffix (All-second IsLexeme m.prefix m.suffix lexemes) m.second)
 
 -- such items are well formed
 pub all_well : (xs : List Item) → AllByRecursion EachClosed xs → AllByRecursion WellFormed xs
@@ -284,8 +270,8 @@ text_lexemes bs ts faulty h = begun 0 bs ts h.rest h.front
 -- an item that was taken from tokens is well formed
 pub taken_well : (k : ItemType) (a : Item) (p q r : Parsing) → AllLexemes (kinds p.tokens) → (taken : List (ℕ × Lexeme)) → p.tokens ≡ taken ++ q.tokens → (used : List (ℕ × Lexeme)) → q.tokens ≡ used ++ r.tokens → item k a (kinds used) → WellFormed a
 taken_well k a p q r l taken parts used more m =
-    let behind : AllLexemes (kinds q.tokens) = all_right (kinds taken) (kinds q.tokens) (subst AllLexemes (ap kinds parts ∙ kinds-append taken q.tokens) l) in
-    closed_well a (item_closed k a (kinds used) (all_left (kinds used) (kinds r.tokens) (subst AllLexemes (ap kinds more ∙ kinds-append used r.tokens) behind)) m)
+    let behind : AllLexemes (kinds q.tokens) = All-second IsLexeme (kinds taken) (kinds q.tokens) (subst AllLexemes (ap kinds parts ∙ kinds-append taken q.tokens) l) in
+    closed_well a (item_closed k a (kinds used) (All-first IsLexeme (kinds used) (kinds r.tokens) (subst AllLexemes (ap kinds more ∙ kinds-append used r.tokens) behind)) m)
 
 -- each statement of the items of a text is valid at its position
 pub text_closed : (k : ItemType) (xs : List Item) (bs : List ℕ) → TextSpells k bs xs → AllByRecursion EachClosed xs

@@ -117,6 +117,7 @@ fn enter_assignment(parser: &mut Parser<'_>) -> Read<()>
 }
 
 // The next statements, which are entered into the scope.
+#[tactic(auto, using(crate::proofs::Nodes::NextStatements::next_stays))]
 fn statements(parser: &mut Parser<'_>) -> Read<()>
     ensures ok { OnOk result (TakesStatements parser.old parser.new) }
     ensures err { IfErr result (λ e. StatedRefusal (error_of e) parser.old parser.new) }

@@ -1,4 +1,5 @@
-use Rattle.std.proofs.lemmas.Result.{err_from_is_err_and, on_ok_weaker}
+use Rattle.std.proofs.lemmas.Result.{on_ok_weaker}
+use Rattle.souper_ir.proofs.Exits.{exit}
 use Rattle.souper_graph.specs.Values.{condition}
 use Rattle.souper_errors.specs.Errors.{error_of}
 use Rattle.souper_ir.proofs.Nodes.Statements.{pc_taken, pc_refused}
@@ -7,10 +8,15 @@ use Rattle.souper_ir.proofs.Items.Steps.{entered}
 use Rattle.souper_ir.proofs.Items.Stopping.{pc_stops}
 use Rattle.souper_ir.proofs.parse.item.enter_pc.Goals as goal
 
-pub returns-in_err-condition-clause-err : goal.returns-in_err-condition-clause-err
-returns-in_err-condition-clause-err c =
-    let p = err_from_is_err_and c.from_residual.result c.from_residual.ensures.1 in
-    rw (p.1, p.2) (pc_refused (error_of c.in_err-condition.field-0.0) c.args.parser.now c.args.parser.now c.pc.new.parser (pc_seen c.args.parser.now c.args.parser.now c.requires) c.in_err-condition.ensures)
+pub returns-in_err-condition : goal.returns-in_err-condition
+returns-in_err-condition c =
+    let e = error_of c.in_err-condition.field-0.0 in
+    let here = c.args.parser.now in
+    rw (exit c.from_residual.result c.from_residual.ensures.1) (record {
+      ok = tt;
+      err = pc_refused e here here c.pc.new.parser (pc_seen here here c.requires) c.in_err-condition.ensures;
+      stops = pc_stops e here c.pc.new.parser c.requires c.in_err-condition.ensures;
+    })
 
 pub returns-clause-ok : goal.returns-clause-ok
 returns-clause-ok c =
@@ -18,8 +24,3 @@ returns-clause-ok c =
     (entered (condition c.in_ok-condition.condition) c.args.parser.now c.pc.new.parser c.add.new.self
     (pc_taken c.in_ok-condition.condition c.args.parser.now c.args.parser.now c.pc.new.parser (pc_seen c.args.parser.now c.args.parser.now c.requires) c.in_ok-condition.ensures))
     (rw c.into.ensures at c.add.ensures.ok)
-
-pub returns-in_err-condition-clause-stops : goal.returns-in_err-condition-clause-stops
-returns-in_err-condition-clause-stops c =
-    let p = err_from_is_err_and c.from_residual.result c.from_residual.ensures.1 in
-    rw (p.1, p.2) (pc_stops (error_of c.in_err-condition.field-0.0) c.args.parser.now c.pc.new.parser c.requires c.in_err-condition.ensures)

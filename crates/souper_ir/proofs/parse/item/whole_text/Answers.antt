@@ -29,27 +29,20 @@ returns-in-Ok-clause-gaps g c = λ h.
     let none = c.requires.only [] (gap_text c.args.source.now h) in
     c.in-Ok.ensures.ended none.0 none.1 c.requires.live
 
-pub returns-in-Err-clause-gaps : goal.returns-in-Err-clause-gaps
-returns-in-Err-clause-gaps g c = λ h.
-    let none = c.requires.only [] (gap_text c.args.source.now h) in
-    absurd (c.in-Err.ensures.ended none.0 none.1 c.requires.live)
-
-pub returns-in-Err-clause-refused : goal.returns-in-Err-clause-refused
-returns-in-Err-clause-refused g c =
-    located_answer g.T.Item.item_type (option_copied c.args.filename) c.args.source.now c.in-Err.error c.locate.result c.args.parser.now c.items.new.parser
-    c.requires.live c.requires.len c.requires.only c.in-Err.ensures.err c.locate.ensures.location c.locate.ensures.located
-
-pub returns-in-Err-clause-before : goal.returns-in-Err-clause-before
-returns-in-Err-clause-before g c = λ kind.
-    (taken_before g.S.Sink.holds g.T.Item.item_type _ (option_copied c.args.filename) c.args.source.now c.in-Err.error c.locate.result c.args.parser.now c.args.sink.now c.items.new.sink
-    c.requires.tokens c.locate.ensures.located c.in-Err.ensures.first kind).0
-
-pub returns-in-Err-clause-starts_before : goal.returns-in-Err-clause-starts_before
-returns-in-Err-clause-starts_before g c = λ kind.
-    (taken_before g.S.Sink.holds g.T.Item.item_type _ (option_copied c.args.filename) c.args.source.now c.in-Err.error c.locate.result c.args.parser.now c.args.sink.now c.items.new.sink
-    c.requires.tokens c.locate.ensures.located c.in-Err.ensures.first kind).1
-
-pub returns-in-Err-clause-stops : goal.returns-in-Err-clause-stops
-returns-in-Err-clause-stops g c = λ kind.
-    text_stops g.T.Item.item_type (option_copied c.args.filename) c.args.source.now c.in-Err.error c.locate.result c.args.parser.now c.requires.tokens c.requires.cut c.requires.scope c.requires.live
-    c.locate.ensures.located c.locate.ensures.at_end c.in-Err.ensures.stops kind
+pub returns-in-Err : goal.returns-in-Err
+returns-in-Err g c =
+    let k = g.T.Item.item_type in
+    let file = option_copied c.args.filename in
+    let bs = c.args.source.now in
+    let e = c.in-Err.error in
+    let located = c.locate.ensures.located in
+    let before = taken_before g.S.Sink.holds k _ file bs e c.locate.result c.args.parser.now c.args.sink.now c.items.new.sink c.requires.tokens located c.in-Err.ensures.first in record {
+      taken = tt;
+      starts = tt;
+      refused = located_answer k file bs e c.locate.result c.args.parser.now c.items.new.parser c.requires.live c.requires.len c.requires.only c.in-Err.ensures.err c.locate.ensures.location located;
+      stops = text_stops k file bs e c.locate.result c.args.parser.now c.requires.tokens c.requires.cut c.requires.scope c.requires.live located c.locate.ensures.at_end c.in-Err.ensures.stops;
+      before = λ kind. (before kind).0;
+      starts_before = λ kind. (before kind).1;
+      asked = c.in-Err.ensures.asked;
+      gaps = λ h. let none = c.requires.only [] (gap_text bs h) in absurd (c.in-Err.ensures.ended none.0 none.1 c.requires.live);
+    }

@@ -1,5 +1,5 @@
 use Rattle.std.specs.Prelude.{map}
-use Rattle.std.proofs.lemmas.Result.{err_from_is_err_and}
+use Rattle.souper_ir.proofs.Exits.{exit}
 use Rattle.souper_graph.specs.declared.ast.operands.Operand.{Operand}
 use Rattle.souper_graph.specs.View.{view_root_attribute}
 use Rattle.souper_ir.specs.Laws.FromReadings.{is_taken, is_refused}
@@ -12,14 +12,12 @@ use Rattle.souper_ir.proofs.parse.last_lines.cand.Goals as goal
 
 pub returns-in_err-lhs-clause-err : goal.returns-in_err-lhs-clause-err
 returns-in_err-lhs-clause-err c =
-    let r = err_from_is_err_and c.from_residual.result c.from_residual.ensures.1 in
-    rw (r.1, r.2) (cand_laws.refused_before (error_of c.in_err-lhs.field-0.0) c.args.parser.now c.pair.new.parser
+    rw (exit c.from_residual.result c.from_residual.ensures.1) (cand_laws.refused_before (error_of c.in_err-lhs.field-0.0) c.args.parser.now c.pair.new.parser
     (is_refused pair_line_rule (error_of c.in_err-lhs.field-0.0) c.args.parser.now c.pair.new.parser c.in_err-lhs.ensures))
 
 pub returns-in_err-attributes-clause-err : goal.returns-in_err-attributes-clause-err
 returns-in_err-attributes-clause-err c =
-    let r = err_from_is_err_and c.from_residual-in_err-attributes.result c.from_residual-in_err-attributes.ensures.1 in
-    rw (r.1, r.2) (cand_laws.refused_behind (c.in_ok-lhs.lhs, c.in_ok-lhs.rhs) (error_of c.in_err-attributes.field-0.0) c.args.parser.now c.pair.new.parser c.root_attributes.new.parser
+    rw (exit c.from_residual-in_err-attributes.result c.from_residual-in_err-attributes.ensures.1) (cand_laws.refused_behind (c.in_ok-lhs.lhs, c.in_ok-lhs.rhs) (error_of c.in_err-attributes.field-0.0) c.args.parser.now c.pair.new.parser c.root_attributes.new.parser
     (is_taken pair_line_rule (λ (x : Operand × Operand). x) (c.in_ok-lhs.lhs, c.in_ok-lhs.rhs) c.args.parser.now c.pair.new.parser c.in_ok-lhs.ensures) c.in_err-attributes.ensures.err)
 
 pub returns-clause-ok : goal.returns-clause-ok
@@ -29,10 +27,8 @@ returns-clause-ok c =
 
 pub returns-in_err-lhs-clause-stops : goal.returns-in_err-lhs-clause-stops
 returns-in_err-lhs-clause-stops c =
-    let r = err_from_is_err_and c.from_residual.result c.from_residual.ensures.1 in
-    rw (r.1, r.2) (node_stops pair_at root_attribute_form root_attribute_at (error_of c.in_err-lhs.field-0.0) c.args.parser.now c.pair.new.parser c.in_err-lhs.ensures)
+    rw (exit c.from_residual.result c.from_residual.ensures.1) (node_stops pair_at root_attribute_form root_attribute_at (error_of c.in_err-lhs.field-0.0) c.args.parser.now c.pair.new.parser c.in_err-lhs.ensures)
 
 pub returns-in_err-attributes-clause-stops : goal.returns-in_err-attributes-clause-stops
 returns-in_err-attributes-clause-stops c =
-    let r = err_from_is_err_and c.from_residual-in_err-attributes.result c.from_residual-in_err-attributes.ensures.1 in
-    rw (r.1, r.2) (behind_stops pair_at root_attribute_form root_attribute_at (c.in_ok-lhs.lhs, c.in_ok-lhs.rhs) (error_of c.in_err-attributes.field-0.0) c.args.parser.now c.pair.new.parser c.in_ok-lhs.ensures c.in_err-attributes.ensures.stops)
+    rw (exit c.from_residual-in_err-attributes.result c.from_residual-in_err-attributes.ensures.1) (behind_stops pair_at root_attribute_form root_attribute_at (c.in_ok-lhs.lhs, c.in_ok-lhs.rhs) (error_of c.in_err-attributes.field-0.0) c.args.parser.now c.pair.new.parser c.in_ok-lhs.ensures c.in_err-attributes.ensures.stops)

@@ -1,6 +1,6 @@
 use Rattle.std.proofs.Common.{ℕ}
 use Rattle.std.specs.Prelude.{map}
-use Rattle.std.proofs.lemmas.Result.{err_from_is_err_and}
+use Rattle.souper_ir.proofs.Exits.{exit}
 use Rattle.souper_graph.specs.View.{view_root_attribute}
 use Rattle.souper_ir.specs.Laws.FromReadings.{is_taken, is_refused}
 use Rattle.souper_ir.specs.Laws.Statements.{root_rule, infer_laws}
@@ -12,14 +12,12 @@ use Rattle.souper_ir.proofs.parse.last_lines.infer.Goals as goal
 
 pub returns-in_err-value-clause-err : goal.returns-in_err-value-clause-err
 returns-in_err-value-clause-err c =
-    let r = err_from_is_err_and c.from_residual.result c.from_residual.ensures.1 in
-    rw (r.1, r.2) (infer_laws.refused_before (error_of c.in_err-value.field-0.0) c.args.parser.now c.root.new.parser
+    rw (exit c.from_residual.result c.from_residual.ensures.1) (infer_laws.refused_before (error_of c.in_err-value.field-0.0) c.args.parser.now c.root.new.parser
     (is_refused root_rule (error_of c.in_err-value.field-0.0) c.args.parser.now c.root.new.parser c.in_err-value.ensures))
 
 pub returns-in_err-attributes-clause-err : goal.returns-in_err-attributes-clause-err
 returns-in_err-attributes-clause-err c =
-    let r = err_from_is_err_and c.from_residual-in_err-attributes.result c.from_residual-in_err-attributes.ensures.1 in
-    rw (r.1, r.2) (infer_laws.refused_behind c.in_ok-value.value (error_of c.in_err-attributes.field-0.0) c.args.parser.now c.root.new.parser c.root_attributes.new.parser
+    rw (exit c.from_residual-in_err-attributes.result c.from_residual-in_err-attributes.ensures.1) (infer_laws.refused_behind c.in_ok-value.value (error_of c.in_err-attributes.field-0.0) c.args.parser.now c.root.new.parser c.root_attributes.new.parser
     (is_taken root_rule (λ (x : ℕ). x) c.in_ok-value.value c.args.parser.now c.root.new.parser c.in_ok-value.ensures) c.in_err-attributes.ensures.err)
 
 pub returns-clause-ok : goal.returns-clause-ok
@@ -29,10 +27,8 @@ returns-clause-ok c =
 
 pub returns-in_err-value-clause-stops : goal.returns-in_err-value-clause-stops
 returns-in_err-value-clause-stops c =
-    let r = err_from_is_err_and c.from_residual.result c.from_residual.ensures.1 in
-    rw (r.1, r.2) (node_stops root_at root_attribute_form root_attribute_at (error_of c.in_err-value.field-0.0) c.args.parser.now c.root.new.parser c.in_err-value.ensures)
+    rw (exit c.from_residual.result c.from_residual.ensures.1) (node_stops root_at root_attribute_form root_attribute_at (error_of c.in_err-value.field-0.0) c.args.parser.now c.root.new.parser c.in_err-value.ensures)
 
 pub returns-in_err-attributes-clause-stops : goal.returns-in_err-attributes-clause-stops
 returns-in_err-attributes-clause-stops c =
-    let r = err_from_is_err_and c.from_residual-in_err-attributes.result c.from_residual-in_err-attributes.ensures.1 in
-    rw (r.1, r.2) (behind_stops root_at root_attribute_form root_attribute_at c.in_ok-value.value (error_of c.in_err-attributes.field-0.0) c.args.parser.now c.root.new.parser c.in_ok-value.ensures c.in_err-attributes.ensures.stops)
+    rw (exit c.from_residual-in_err-attributes.result c.from_residual-in_err-attributes.ensures.1) (behind_stops root_at root_attribute_form root_attribute_at c.in_ok-value.value (error_of c.in_err-attributes.field-0.0) c.args.parser.now c.root.new.parser c.in_ok-value.ensures c.in_err-attributes.ensures.stops)

@@ -1,5 +1,5 @@
 use Rattle.std.proofs.Common.{◌≡◌, ◌∙◌, sym, ℕ, Ok, subst, arith}
-use Rattle.std.proofs.lemmas.Result.{err_from_is_err_and}
+use Rattle.souper_ir.proofs.Exits.{exit}
 use Rattle.souper_ir.specs.Reading.{fails_later}
 use Rattle.souper_ir.specs.Laws.FromReadings.{of_memory}
 use Rattle.souper_ir.specs.NodeReadings.{further_at}
@@ -17,8 +17,7 @@ loop-preserved c =
 
 pub returns-in_err-operand : goal.returns-in_err-operand
 returns-in_err-operand c =
-    let p = err_from_is_err_and c.from_residual.result c.from_residual.ensures.1 in
-    rw (p.1, p.2) (further_fails c.loop.counter c.args.count c.args.parser.now c.loop.parser c.next_operand.new.parser c.loop.operands.items (error_of c.in_err-operand.field-0.0) (omega arith) c.loop.invariant.0
+    rw (exit c.from_residual.result c.from_residual.ensures.1) (further_fails c.loop.counter c.args.count c.args.parser.now c.loop.parser c.next_operand.new.parser c.loop.operands.items (error_of c.in_err-operand.field-0.0) (omega arith) c.loop.invariant.0
     (c.loop.invariant.1 ∙ sym c.requires) c.loop.invariant.2 c.in_err-operand.ensures)
 
 pub returns-in-Err : goal.returns-in-Err

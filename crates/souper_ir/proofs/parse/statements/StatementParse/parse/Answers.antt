@@ -1,5 +1,5 @@
 use Rattle.std.specs.Prelude.{codes}
-use Rattle.std.proofs.lemmas.Result.{err_from_is_err_and}
+use Rattle.souper_ir.proofs.Exits.{exit}
 use Rattle.souper_graph.specs.View.{view_assignment}
 use Rattle.souper_ir.specs.NodeReadings.{is_word}
 use Rattle.souper_ir.proofs.Nodes.Statements.{Refuses, peek_refused, pc_taken, pc_refused, passed, block_pc_taken, block_pc_refused, Takes_it, assignment_taken, assignment_refused}
@@ -9,32 +9,27 @@ use Rattle.souper_ir.proofs.parse.statements.StatementParse.parse.Goals as goal
 
 pub returns-in_err-word_comes-clause-err : goal.returns-in_err-word_comes-clause-err
 returns-in_err-word_comes-clause-err c =
-    let r = err_from_is_err_and c.from_residual.result c.from_residual.ensures.1 in
-    rw (r.1, r.2) (peek_refused (is_word (codes "pc")) (error_of c.in_err-word_comes.field-0.0) c.args.parser.now c.word_comes.new.parser c.in_err-word_comes.ensures)
+    rw (exit c.from_residual.result c.from_residual.ensures.1) (peek_refused (is_word (codes "pc")) (error_of c.in_err-word_comes.field-0.0) c.args.parser.now c.word_comes.new.parser c.in_err-word_comes.ensures)
 
 pub returns-in_err-pc-clause-err : goal.returns-in_err-pc-clause-err
 returns-in_err-pc-clause-err c =
-    let r = err_from_is_err_and c.from_residual-in_err-pc.result c.from_residual-in_err-pc.ensures.1 in
-    rw (r.1, r.2) (pc_refused (error_of c.in_err-pc.field-0.0) c.args.parser.now c.word_comes.new.parser c.pc.new.parser (rw c.if-branch.true at c.in_ok-word_comes.ensures) c.in_err-pc.ensures)
+    rw (exit c.from_residual-in_err-pc.result c.from_residual-in_err-pc.ensures.1) (pc_refused (error_of c.in_err-pc.field-0.0) c.args.parser.now c.word_comes.new.parser c.pc.new.parser (rw c.if-branch.true at c.in_ok-word_comes.ensures) c.in_err-pc.ensures)
 
 pub returns-in_err-word_comes-2-clause-err : goal.returns-in_err-word_comes-2-clause-err
 returns-in_err-word_comes-2-clause-err c =
-    let r = err_from_is_err_and c.from_residual-in_err-word_comes-2.result c.from_residual-in_err-word_comes-2.ensures.1 in
     let e = (error_of c.in_err-word_comes-2.field-0.0) in
-    rw (r.1, r.2) (passed (λ x. Refuses e x c.word_comes-else-branch.new.parser) (codes "pc") c.args.parser.now c.word_comes.new.parser (rw c.if-branch.false at c.in_ok-word_comes.ensures)
+    rw (exit c.from_residual-in_err-word_comes-2.result c.from_residual-in_err-word_comes-2.ensures.1) (passed (λ x. Refuses e x c.word_comes-else-branch.new.parser) (codes "pc") c.args.parser.now c.word_comes.new.parser (rw c.if-branch.false at c.in_ok-word_comes.ensures)
     (peek_refused (is_word (codes "blockpc")) e c.word_comes.new.parser c.word_comes-else-branch.new.parser c.in_err-word_comes-2.ensures))
 
 pub returns-in_err-block_pc-clause-err : goal.returns-in_err-block_pc-clause-err
 returns-in_err-block_pc-clause-err c =
-    let r = err_from_is_err_and c.from_residual-in_err-block_pc.result c.from_residual-in_err-block_pc.ensures.1 in
     let e = (error_of c.in_err-block_pc.field-0.0) in
-    rw (r.1, r.2) (passed (λ x. Refuses e x c.block_pc.new.parser) (codes "pc") c.args.parser.now c.word_comes.new.parser (rw c.if-branch.false at c.in_ok-word_comes.ensures)
+    rw (exit c.from_residual-in_err-block_pc.result c.from_residual-in_err-block_pc.ensures.1) (passed (λ x. Refuses e x c.block_pc.new.parser) (codes "pc") c.args.parser.now c.word_comes.new.parser (rw c.if-branch.false at c.in_ok-word_comes.ensures)
     (block_pc_refused e c.word_comes.new.parser c.word_comes-else-branch.new.parser c.block_pc.new.parser (rw c.if-branch-2.true at c.in_ok-word_comes-2.ensures) c.in_err-block_pc.ensures))
 
 pub returns-in_err-assignment-clause-err : goal.returns-in_err-assignment-clause-err
 returns-in_err-assignment-clause-err c =
-    let r = err_from_is_err_and c.from_residual-in_err-assignment.result c.from_residual-in_err-assignment.ensures.1 in
-    rw (r.1, r.2) (assignment_refused (error_of c.in_err-assignment.field-0.0) c.args.parser.now c.word_comes.new.parser c.word_comes-else-branch.new.parser c.assignment.new.parser
+    rw (exit c.from_residual-in_err-assignment.result c.from_residual-in_err-assignment.ensures.1) (assignment_refused (error_of c.in_err-assignment.field-0.0) c.args.parser.now c.word_comes.new.parser c.word_comes-else-branch.new.parser c.assignment.new.parser
     (rw c.if-branch.false at c.in_ok-word_comes.ensures) (rw c.if-branch-2.false at c.in_ok-word_comes-2.ensures) c.in_err-assignment.ensures.err)
 
 pub returns-in_ok-pc-clause-ok : goal.returns-in_ok-pc-clause-ok
