@@ -9,9 +9,8 @@ use souper_format::watched::Watched;
 use souper_ir::ast::LeftHandSide;
 use souper_records::check::check_run;
 use souper_records::layout::{Layout, Summary};
-use souper_records::run::{
-    count_run, each_going_on_run, each_run, objects_run, uniq_going_on_run, uniq_run,
-};
+use souper_records::options::ReadOptions;
+use souper_records::run::{count_run, each_run_with, objects_run_with, uniq_run_with};
 use souper_records::seen::Seen;
 use souper_stream::StreamItem;
 use std::alloc::{AllocError, Global};
@@ -49,6 +48,15 @@ impl Write for Output<'_> {
     }
 }
 
+// How a stream of this name is read.
+fn read_options(name: &str, recover: bool) -> ReadOptions<'_> {
+    ReadOptions {
+        name,
+        recover,
+        line_buffered: false,
+    }
+}
+
 impl Session {
     pub(crate) fn new(alloc: Global, random: Random) -> Result<Session, AllocError> {
         Ok(Session {
@@ -74,25 +82,14 @@ impl Session {
             digest: &mut self.err,
         });
         let mut reader = BufReader::with_capacity(self.alloc, CAPACITY, text.as_bytes())?;
-        let status = if keep_going {
-            each_going_on_run::<T, BufReader<&[u8]>, Output<'_>, Output<'_>>(
-                self.alloc,
-                layout,
-                &mut reader,
-                "harvest",
-                &mut out,
-                &mut err,
-            )
-        } else {
-            each_run::<T, BufReader<&[u8]>, Output<'_>, Output<'_>>(
-                self.alloc,
-                layout,
-                &mut reader,
-                "harvest",
-                &mut out,
-                &mut err,
-            )
-        };
+        let status = each_run_with::<T, BufReader<&[u8]>, Output<'_>, Output<'_>>(
+            self.alloc,
+            layout,
+            read_options("harvest", keep_going),
+            &mut reader,
+            &mut out,
+            &mut err,
+        );
         self.out.number(u64::from(status));
         Ok(())
     }
@@ -123,12 +120,11 @@ impl Session {
         });
         let mut seen = Seen::new(self.alloc);
         let mut reader = BufReader::with_capacity(self.alloc, CAPACITY, text.as_bytes())?;
-        let status = uniq_going_on_run::<LeftHandSide, BufReader<&[u8]>, Output<'_>, Output<'_>>(
-            self.alloc,
+        let status = uniq_run_with::<LeftHandSide, BufReader<&[u8]>, Output<'_>, Output<'_>>(
             layout,
+            read_options("harvest", true),
             &mut seen,
             &mut reader,
-            "harvest",
             &mut out,
             &mut err,
         );
@@ -150,12 +146,11 @@ impl Session {
             digest: &mut self.err,
         });
         let mut reader = BufReader::with_capacity(self.alloc, CAPACITY, text.as_bytes())?;
-        let status = uniq_run::<LeftHandSide, BufReader<&[u8]>, Output<'_>, Output<'_>>(
-            self.alloc,
+        let status = uniq_run_with::<LeftHandSide, BufReader<&[u8]>, Output<'_>, Output<'_>>(
             layout,
+            read_options("store", false),
             seen,
             &mut reader,
-            "store",
             &mut out,
             &mut err,
         );
@@ -188,11 +183,11 @@ impl Session {
             digest: &mut self.err,
         });
         let mut reader = BufReader::with_capacity(self.alloc, CAPACITY, text.as_bytes())?;
-        let status = objects_run::<LeftHandSide, BufReader<&[u8]>, Output<'_>, Output<'_>>(
+        let status = objects_run_with::<LeftHandSide, BufReader<&[u8]>, Output<'_>, Output<'_>>(
             self.alloc,
             false,
+            read_options("store", true),
             &mut reader,
-            "store",
             &mut out,
             &mut err,
         );

@@ -6,7 +6,8 @@ use anyhow::Result;
 use souper_format::watched::Watched;
 use souper_ir::ast::LeftHandSide;
 use souper_records::layout::{Delimiter, Layout, PLAIN};
-use souper_records::run::{each_run, objects_run, uniq_run};
+use souper_records::options::ReadOptions;
+use souper_records::run::{each_run_with, objects_run_with, uniq_run_with};
 use souper_records::seen::Seen;
 use std::alloc::Global;
 use std::io;
@@ -61,16 +62,21 @@ fn run(alloc: Global, command: Command, mut source: &[u8], want: Want<'_>) -> Re
     let mut out = Watched::new(written.as_mut_slice());
     let mut err = Watched::new(reported.as_mut_slice());
     let mut seen = Seen::new(alloc);
-    let (source, name, out, err) = (&mut source, "a.opt", &mut out, &mut err);
+    let (source, out, err) = (&mut source, &mut out, &mut err);
+    let options = ReadOptions {
+        name: "a.opt",
+        recover: matches!(command, Command::Objects),
+        line_buffered: false,
+    };
     let status = match command {
-        Command::Each(layout) => each_run::<LeftHandSide, &[u8], &mut [u8], &mut [u8]>(
-            alloc, layout, source, name, out, err,
+        Command::Each(layout) => each_run_with::<LeftHandSide, &[u8], &mut [u8], &mut [u8]>(
+            alloc, layout, options, source, out, err,
         ),
-        Command::Uniq => uniq_run::<LeftHandSide, &[u8], &mut [u8], &mut [u8]>(
-            alloc, PLAIN, &mut seen, source, name, out, err,
+        Command::Uniq => uniq_run_with::<LeftHandSide, &[u8], &mut [u8], &mut [u8]>(
+            PLAIN, options, &mut seen, source, out, err,
         ),
-        Command::Objects => objects_run::<LeftHandSide, &[u8], &mut [u8], &mut [u8]>(
-            alloc, false, source, name, out, err,
+        Command::Objects => objects_run_with::<LeftHandSide, &[u8], &mut [u8], &mut [u8]>(
+            alloc, false, options, source, out, err,
         ),
     };
     let met = completed_if(alloc, status == want.status);

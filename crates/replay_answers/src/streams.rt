@@ -4,7 +4,8 @@ use souper_format::command::Kind;
 use souper_format::watched::Watched;
 use souper_ir::ast::{LeftHandSide, Replacement, RightHandSide};
 use souper_records::layout::PLAIN;
-use souper_records::run::each_run;
+use souper_records::options::ReadOptions;
+use souper_records::run::each_run_with;
 use souper_stream::StreamItem;
 use std::alloc::Global;
 use std::io::BufReader;
@@ -26,11 +27,16 @@ fn made_of<T: StreamItem + Drop>(alloc: Global, text: &str) -> io::Result<Made> 
     let mut reader = BufReader::with_capacity(alloc, CAPACITY, text.as_bytes())?;
     let mut out = Watched::new(&mut written);
     let mut err = Watched::new(&mut reported);
-    let status = each_run::<T, BufReader<&[u8]>, &mut Vec<u8>, &mut Vec<u8>>(
+    let options = ReadOptions {
+        name: "unknown",
+        recover: false,
+        line_buffered: false,
+    };
+    let status = each_run_with::<T, BufReader<&[u8]>, &mut Vec<u8>, &mut Vec<u8>>(
         alloc,
         PLAIN,
+        options,
         &mut reader,
-        "unknown",
         &mut out,
         &mut err,
     );

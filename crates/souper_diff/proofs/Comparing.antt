@@ -5,10 +5,6 @@ use Rattle.std.proofs.lemmas.List.Sums.{sum_by-append, count_by-le-length}
 use Rattle.souper_diff.specs.declared.comparison.Comparison.{Comparison}
 use Rattle.souper_diff.specs.Comparisons.{line_ends, FirstDiffer, OneIsEmpty, DifferFrom, AgreeUpTo, IsCompared}
 
-pub apart : {P Q : Type 0} (b : Bool) → MatchBool b P Q → P ⊎ Q
-apart true h = inl h
-apart false h = inr h
-
 first_longer : (a b x y : List ℕ) → FirstDiffer a b → FirstDiffer (a ++ x) (b ++ y)
 first_longer [] b x y h = absurd h
 first_longer (a ∷ xs) [] x y h = absurd h

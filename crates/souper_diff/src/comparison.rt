@@ -1,6 +1,6 @@
-//! Where two texts differ first, whole or part by part.
+//! Where two texts that come part by part differ first.
 ghost use Rattle.std.specs.Prelude.{◌≡◌, ◌++◌, [], ℕ, List, take, OnOk, IfSome, IfNone};
-ghost use Rattle.souper_diff.specs.Comparisons.{line_ends, AgreeUpTo, DifferOnLine, DifferFrom, IsCompared};
+ghost use Rattle.souper_diff.specs.Comparisons.{line_ends, AgreeUpTo, DifferFrom, IsCompared};
 
 use std::alloc::{AllocError, Global};
 
@@ -23,18 +23,6 @@ fn common_front(text: &[u8], other: &[u8]) -> (usize, usize, bool)
         }
     }
     (text.len(), newlines, false)
-}
-
-/// The line, counted from 1, on which the texts first differ, or none if they are the same.
-pub fn differing_line(text: &[u8], other: &[u8]) -> Option<usize>
-    ensures same { IfNone result (text.now ≡ other.now) }
-    ensures differs { IfSome result (DifferOnLine text.now other.now) }
-{
-    if text == other {
-        return None;
-    }
-    let (_, newlines, _) = common_front(text, other);
-    Some(newlines + 1)
 }
 
 /// Two texts that come part by part, compared as far as both came.

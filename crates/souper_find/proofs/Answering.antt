@@ -14,9 +14,10 @@ use Rattle.souper_lookup.specs.Stored.{Entry, key_of_left, has_left_key, answers
 use Rattle.souper_records.specs.Outcomes.{Outcome}
 use Rattle.souper_find.specs.declared.search.Choice.{Choice}
 use Rattle.souper_find.specs.declared.search.Choice.TheVariants.{All, First, Unanswered}
-use Rattle.souper_find.specs.declared.search.Output.{Output}
+use Rattle.souper_records.specs.declared.output.Output.{Output}
+use Rattle.souper_records.specs.Outputs.{renames}
 use Rattle.souper_records.specs.Uniques.{text_by}
-use Rattle.souper_find.specs.Answers.{if_unanswered, renames, HaveTexts, AreTexts, AreAllTexts, part_text, AreAnswers}
+use Rattle.souper_find.specs.Answers.{if_unanswered, HaveTexts, AreTexts, AreAllTexts, groups_text, AreAnswers}
 
 pub instances-well : (q : Item) (xs ys : List Item) → AreInstances q xs ys → AllByRecursion WellFormed ys
 instances-well q [] [] h = tt
@@ -74,8 +75,8 @@ module _ (c : Choice) (output : Output) (entries : List Entry) where
 
   -- one part more
   pub answers_more : (name : List ℕ) (os : List Outcome) (o : Outcome) (text : List ℕ) (groups : List (List (List ℕ))) → AreAnswers c output entries name os text → AreAllTexts c output entries o.items groups
-      → AreAnswers c output entries name (os ++ o ∷ []) (text ++ part_text output name o.starts o.refusal groups)
-  answers_more name [] o text groups none all = rw none (groups, [], all, sym (append-nil (part_text output name o.starts o.refusal groups)), refl)
+      → AreAnswers c output entries name (os ++ o ∷ []) (text ++ groups_text output name o.starts o.refusal groups)
+  answers_more name [] o text groups none all = rw none (groups, [], all, sym (append-nil (groups_text output name o.starts o.refusal groups)), refl)
   answers_more name (p ∷ os) o text groups (g, rest, are, is, more) all =
-      let last = part_text output name o.starts o.refusal groups in
-      (g, rest ++ last, are, ap (λ (x : List ℕ). x ++ last) is ∙ append_assoc (part_text output name p.starts p.refusal g) rest last, answers_more name os o rest groups more all)
+      let last = groups_text output name o.starts o.refusal groups in
+      (g, rest ++ last, are, ap (λ (x : List ℕ). x ++ last) is ∙ append_assoc (groups_text output name p.starts p.refusal g) rest last, answers_more name os o rest groups more all)

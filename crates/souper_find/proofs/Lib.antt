@@ -1,3 +1,2 @@
-mod Zipping
 mod Answering
 mod Filling

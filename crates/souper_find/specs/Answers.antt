@@ -1,6 +1,5 @@
 -- Definitions. What is written for left-hand sides that a store is asked for.
 use Rattle.std.specs.Prelude.{◌≡◌, ℕ, Bool, List, [], ◌∷◌, ◌++◌, map, flat_map, take, Option}
-use Rattle.std.specs.List.{zip}
 use Rattle.std.specs.Io.KnownBytes.{Appends}
 use Rattle.souper_graph.specs.Values.{Item}
 use Rattle.souper_graph.specs.Syntax.Spelling.{left_hand_side}
@@ -12,12 +11,12 @@ use Rattle.souper_lookup.specs.Stored.{Entry, answers, replacements_of}
 use Rattle.souper_records.specs.declared.layout.Layout.{Layout}
 use Rattle.souper_records.specs.Records.{record_of_text}
 use Rattle.souper_records.specs.Uniques.{text_by}
-use Rattle.souper_records.specs.Objects.{text_line, refusal_line}
+use Rattle.souper_records.specs.Objects.{text_line}
+use Rattle.souper_records.specs.Outputs.{renames, part_text}
+use Rattle.souper_records.specs.declared.output.Output.{Output}
 use Rattle.souper_records.specs.Outcomes.{Outcome, HaveItemStarts}
 use Rattle.souper_find.specs.declared.search.Choice.{Choice}
 use Rattle.souper_find.specs.declared.search.Choice.TheVariants.{All, First, Unanswered}
-use Rattle.souper_find.specs.declared.search.Output.{Output}
-use Rattle.souper_find.specs.declared.search.Output.TheVariants.{Records, Objects}
 
 -- the left-hand side, if it has none of these answers
 abbrev pub if_unanswered : Item → List Entry → List Item
@@ -29,11 +28,6 @@ abbrev pub AreChosen : Choice → List Entry → Item → List Item → Type 0
 AreChosen All entries q items = AreInstances q (replacements_of (answers q entries)) items
 AreChosen First entries q items = AreInstances q (replacements_of (take 1 (answers q entries))) items
 AreChosen Unanswered entries q items = items ≡ if_unanswered q (answers q entries)
-
--- whether the names in texts are by the printed order
-abbrev pub renames : Output → Bool
-renames (Records l) = l.rename
-renames (Objects rename) = rename
 
 -- the texts of instances of these entries
 abbrev pub HaveTexts : Bool → Item → List Entry → List (List ℕ) → Type 0
@@ -59,15 +53,14 @@ abbrev pub group_lines : List ℕ → Start × List (List ℕ) → List ℕ
 group_lines name group = flat_map (λ text. text_line name (group.0, text)) group.1
 
 -- what is written for a part, whose left-hand sides begin there and have these texts, and for its refusal, if it is refused
-abbrev pub part_text : Output → List ℕ → List Start → Option ParseError → List (List (List ℕ)) → List ℕ
-part_text (Records l) name starts refusal groups = flat_map (group_records l) groups
-part_text (Objects rename) name starts refusal groups = flat_map (group_lines name) (zip starts groups) ++ refusal_line name refusal
+abbrev pub groups_text : Output → List ℕ → List Start → Option ParseError → List (List (List ℕ)) → List ℕ
+groups_text output name starts refusal groups = part_text group_records group_lines output name starts refusal groups
 
 -- what is written for the parts of a stream of this name
 abbrev pub AreAnswers : Choice → Output → List Entry → List ℕ → List Outcome → List ℕ → Type 0
 AreAnswers c output entries name [] text = text ≡ []
 AreAnswers c output entries name (o ∷ os) text = (groups : List (List (List ℕ))) × (rest : List ℕ) × AreAllTexts c output entries o.items groups
-    × (text ≡ part_text output name o.starts o.refusal groups ++ rest) × AreAnswers c output entries name os rest
+    × (text ≡ groups_text output name o.starts o.refusal groups ++ rest) × AreAnswers c output entries name os rest
 
 -- it was appended, and nothing else
 abbrev pub AppendsAnswers : Choice → Output → List Entry → List ℕ → Option (List ℕ) → Option (List ℕ) → List Outcome → Type 0

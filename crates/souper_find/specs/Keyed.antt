@@ -1,6 +1,5 @@
 -- Definitions. Replacements with the keys of their left-hand sides.
 use Rattle.std.specs.Prelude.{ℕ, Bool, List, [], ◌++◌, map, flat_map, codes, Option, None, Some, option_map, string_bytes}
-use Rattle.std.specs.List.{zip}
 use Rattle.serde_json.specs.Data.{Data, number, unsigned, string, object, member, no_members}
 use Rattle.souper_graph.specs.Values.{PlainInfer, Item}
 use Rattle.souper_graph.specs.Syntax.Spelling.{replacement}
@@ -12,12 +11,11 @@ use Rattle.souper_lookup.specs.Stored.{key_of_left}
 use Rattle.souper_records.specs.declared.layout.Layout.{Layout}
 use Rattle.souper_records.specs.Records.{key_of, record_of_text}
 use Rattle.souper_records.specs.Uniques.{text_by}
-use Rattle.souper_records.specs.Objects.{optional_string, object_line, refusal_line}
+use Rattle.souper_records.specs.Objects.{optional_string, object_line}
+use Rattle.souper_records.specs.Outputs.{renames, part_text}
+use Rattle.souper_records.specs.declared.output.Output.{Output}
 use Rattle.souper_records.specs.Outcomes.{Outcome, HaveItemStarts}
 use Rattle.souper_find.specs.declared.keyed.Keyed.{Keyed}
-use Rattle.souper_find.specs.declared.search.Output.{Output}
-use Rattle.souper_find.specs.declared.search.Output.TheVariants.{Records, Objects}
-use Rattle.souper_find.specs.Answers.{renames}
 
 -- The key of the left-hand side of a replacement: the SHA-256 of its canonical text with names by its printed order. None of a replacement
 -- of a constant.
@@ -53,8 +51,7 @@ keyed_line name k = object_line (keyed_object name k.0 k.1)
 
 -- what is written for a part, whose replacements begin there and are these, and for its refusal, if it is refused
 abbrev pub part_keyed : Output → List ℕ → List Start → Option ParseError → List (List ℕ × Option (List ℕ)) → List ℕ
-part_keyed (Records l) name starts refusal items = flat_map (keyed_record l) items
-part_keyed (Objects rename) name starts refusal items = flat_map (keyed_line name) (zip starts items) ++ refusal_line name refusal
+part_keyed output name starts refusal items = part_text keyed_record keyed_line output name starts refusal items
 
 -- the same of the outcome of a part
 abbrev pub outcome_keyed : Output → List ℕ → Outcome → List ℕ

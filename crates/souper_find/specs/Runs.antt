@@ -18,7 +18,7 @@ use Rattle.souper_records.specs.declared.stop.ReadFault.{ReadFault}
 use Rattle.souper_records.specs.Reports.{IsRefusalLine, ReportedReadFault, ReportedMemory}
 use Rattle.souper_records.specs.Runs.{OnStatus, IsRun}
 use Rattle.souper_find.specs.declared.search.Choice.{Choice}
-use Rattle.souper_find.specs.declared.search.Output.{Output}
+use Rattle.souper_records.specs.declared.output.Output.{Output}
 use Rattle.souper_find.specs.Answers.{WritesAnswers}
 use Rattle.souper_find.specs.Keyed.{WritesKeyed}
 

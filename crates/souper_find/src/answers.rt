@@ -1,105 +1,26 @@
 //! The answers of a store to the left-hand sides of a stream.
 
-ghost use Rattle.std.specs.Prelude.{◌≡◌, ◌++◌, true, List, map, flat_map, IfOk, OnOk, Option, option_copied};
-ghost use Rattle.std.specs.List.{zip};
-ghost use Rattle.std.specs.Io.KnownBytes.{Appends};
-ghost use Rattle.std.specs.String.{string_bytes};
+ghost use Rattle.std.specs.Prelude.{◌≡◌, ◌++◌, true, List, map};
 ghost use Rattle.souper_graph.specs.Syntax.Spelling.{left_hand_side};
 ghost use Rattle.souper_format.specs.Streams.{stream};
 ghost use Rattle.souper_format.specs.Watching.{has_failed};
 ghost use Rattle.souper_lookup.specs.Stored.{Entry, Stores};
 ghost use Rattle.souper_records.specs.Outcomes.{input_stream, IsPartsResult};
-ghost use Rattle.souper_records.specs.Records.{record_of_text};
-ghost use Rattle.souper_find.specs.Answers.{AreAllTexts, group_records, group_lines, part_text, AppendsAnswers, WritesAnswers};
+ghost use Rattle.souper_find.specs.Answers.{AreAllTexts, AppendsAnswers, WritesAnswers};
 ghost use Rattle.souper_find.specs.Views.{view_texts};
 
-use crate::search::{Output, Search};
+use crate::search::Search;
 use crate::texts::texts_for;
 use souper_format::watched::Watched;
 use souper_ir::ast::{Arena, LeftHandSide, Statement};
 use souper_ir::parse::{ParseError, Sink, WholeItem};
-use souper_records::layout::Layout;
-use souper_records::objects::{append_item, append_refusal};
 use souper_records::options::ReadOptions;
+use souper_records::output::part_text;
 use souper_records::parts::{Part, PartSink, Source, write_parts};
-use souper_records::records::append_record_of_text;
 use souper_records::stop::{Stop, write_text};
-use souper_stream::{ChunkSink, Start};
+use souper_stream::ChunkSink;
 use std::alloc::{AllocError, Global};
 use std::io::{BufRead, Write};
-
-// Appends the records of items that have these texts.
-fn append_records(
-    alloc: Global,
-    layout: Layout,
-    texts: &[String],
-    out: &mut String,
-) -> Result<(), AllocError>
-    ensures { OnOk result (string_bytes out.new ≡ string_bytes out.old ++ flat_map (record_of_text layout) (map string_bytes texts.now)) }
-{
-    for text in texts {
-        append_record_of_text(alloc, layout, text.as_str(), out)?;
-    }
-    Ok(())
-}
-
-// Appends the lines of items that have these texts, for a left-hand side that begins at `start`.
-fn append_lines(
-    alloc: Global,
-    name: &str,
-    start: Start,
-    texts: &[String],
-    out: &mut String,
-) -> Result<(), AllocError>
-    ensures { OnOk result (string_bytes out.new ≡ string_bytes out.old ++ group_lines name.now (start, map string_bytes texts.now)) }
-{
-    for text in texts {
-        append_item(alloc, name, start, text.as_str(), out)?;
-    }
-    Ok(())
-}
-
-// The records for the left-hand sides of a part.
-fn part_records(alloc: Global, layout: Layout, groups: &[Vec<String>]) -> Result<String, AllocError>
-    ensures { IfOk result (λ out. string_bytes out ≡ flat_map (group_records layout) (map view_texts groups.now)) }
-{
-    let mut out = String::new(alloc);
-    for texts in groups {
-        append_records(alloc, layout, texts.as_slice(), &mut out)?;
-    }
-    Ok(out)
-}
-
-// The lines for the left-hand sides of a part.
-fn part_lines(alloc: Global, part: Part<'_>, groups: &[Vec<String>]) -> Result<String, AllocError>
-    ensures { IfOk result (λ out. string_bytes out ≡ flat_map (group_lines part.entry.name.now) (zip part.entry.starts.now (map view_texts groups.now))) }
-{
-    let mut out = String::new(alloc);
-    for (start, texts) in part.starts.iter().zip(groups) {
-        append_lines(alloc, part.name, *start, texts.as_slice(), &mut out)?;
-    }
-    Ok(out)
-}
-
-// What is written for a part.
-fn part_text(
-    alloc: Global,
-    output: Output,
-    part: Part<'_>,
-    refusal: Option<&ParseError>,
-    groups: &[Vec<String>],
-) -> Result<String, AllocError>
-    ensures { IfOk result (λ out. string_bytes out ≡ part_text output part.entry.name.now part.entry.starts.now (option_copied refusal.entry) (map view_texts groups.now)) }
-{
-    match output {
-        Output::Records(layout) => part_records(alloc, layout, groups),
-        Output::Objects { .. } => {
-            let mut out = part_lines(alloc, part, groups)?;
-            append_refusal(alloc, part.name, refusal, &mut out)?;
-            Ok(out)
-        }
-    }
-}
 
 // The texts that are written for the left-hand sides of a part.
 #[derive(Drop)]
@@ -156,13 +77,7 @@ impl PartSink<LeftHandSide> for Answers<'_> {
         refusal: Option<&ParseError>,
         out: &mut Watched<W>,
     ) -> Result<(), Stop> {
-        let text = part_text(
-            alloc,
-            self.search.output,
-            part,
-            refusal,
-            self.groups.as_slice(),
-        )?;
+        let text = part_text(alloc, self.search.output, part, refusal, &self.groups)?;
         write_text(&text, out)?;
         self.groups.clear();
         Ok(())

@@ -4,8 +4,7 @@
 //! ([`key_of`](souper_records::records::key_of)): the same for left-hand sides that are the same graph up to names. So a store on disk finds the
 //! replacements of a left-hand side by its key.
 
-ghost use Rattle.std.specs.Prelude.{◌≡◌, ◌++◌, true, map, flat_map, IfOk, OnOk, Option, option_copied, option_map};
-ghost use Rattle.std.specs.List.{zip};
+ghost use Rattle.std.specs.Prelude.{◌≡◌, ◌++◌, true, map, IfOk, OnOk, Option, option_map};
 ghost use Rattle.std.specs.Io.KnownBytes.{Appends};
 ghost use Rattle.std.specs.String.{string_bytes};
 ghost use Rattle.serde_json.specs.View.{view};
@@ -17,10 +16,9 @@ ghost use Rattle.souper_format.specs.Streams.{stream};
 ghost use Rattle.souper_format.specs.Watching.{has_failed};
 ghost use Rattle.souper_records.specs.Objects.{optional_string};
 ghost use Rattle.souper_records.specs.Outcomes.{input_stream, IsPartsResult};
-ghost use Rattle.souper_find.specs.Answers.{renames};
-ghost use Rattle.souper_find.specs.Keyed.{lhs_key, keyed_by, view_keyed, lhs_line, keyed_record, keyed_object, keyed_line, part_keyed, keyed_of, WritesKeyed};
+ghost use Rattle.souper_records.specs.Outputs.{renames};
+ghost use Rattle.souper_find.specs.Keyed.{lhs_key, keyed_by, view_keyed, lhs_line, keyed_record, keyed_object, keyed_line, keyed_of, WritesKeyed};
 
-use crate::search::Output;
 use serde_json::{Value, json};
 use souper_format::watched::Watched;
 use souper_ir::ast::{Arena, Replacement, Statement};
@@ -28,8 +26,9 @@ use souper_ir::parse::{ParseError, Sink, WholeItem};
 use souper_ir::stringify::TextError;
 use souper_lookup::keys::left_key;
 use souper_records::layout::Layout;
-use souper_records::objects::{append_line, append_refusal};
+use souper_records::objects::append_line;
 use souper_records::options::ReadOptions;
+use souper_records::output::{Output, Shown, part_text};
 use souper_records::parts::{Part, PartSink, Source, write_parts};
 use souper_records::records::{append_last_text, append_record_of_text, key_of};
 use souper_records::stop::{Stop, write_text};
@@ -84,28 +83,6 @@ fn append_lhs_line(key: &Option<String>, out: &mut String) -> Result<(), AllocEr
     Ok(())
 }
 
-fn append_record(
-    alloc: Global,
-    layout: Layout,
-    item: &Keyed,
-    out: &mut String,
-) -> Result<(), AllocError>
-    ensures { OnOk result (string_bytes out.new ≡ string_bytes out.old ++ keyed_record layout (view_keyed item.now)) }
-{
-    append_lhs_line(&item.lhs_key, out)?;
-    append_record_of_text(alloc, layout, item.text.as_str(), out)
-}
-
-fn part_records(alloc: Global, layout: Layout, items: &[Keyed]) -> Result<String, AllocError>
-    ensures { IfOk result (λ out. string_bytes out ≡ flat_map (keyed_record layout) (map view_keyed items.now)) }
-{
-    let mut out = String::new(alloc);
-    for item in items {
-        append_record(alloc, layout, item, &mut out)?;
-    }
-    Ok(out)
-}
-
 fn optional_string(alloc: Global, text: &Option<String>) -> Result<Value, AllocError>
     ensures { IfOk result (λ value. view value ≡ optional_string (option_map string_bytes text.now)) }
 {
@@ -131,46 +108,30 @@ fn keyed_object(alloc: Global, name: &str, start: Start, item: &Keyed) -> Result
     })
 }
 
-fn append_object(
-    alloc: Global,
-    name: &str,
-    start: Start,
-    item: &Keyed,
-    out: &mut String,
-) -> Result<(), AllocError>
-    ensures { OnOk result (string_bytes out.new ≡ string_bytes out.old ++ keyed_line name.now (start, view_keyed item.now)) }
-{
-    let object = keyed_object(alloc, name, start, item)?;
-    append_line(alloc, &object, out)
-}
+impl Shown for Keyed {
+    ghost as_records = { λ layout keyed. keyed_record layout (view_keyed keyed) };
 
-fn part_lines(alloc: Global, part: Part<'_>, items: &[Keyed]) -> Result<String, AllocError>
-    ensures { IfOk result (λ out. string_bytes out ≡ flat_map (keyed_line part.entry.name.now) (zip part.entry.starts.now (map view_keyed items.now))) }
-{
-    let mut out = String::new(alloc);
-    for (start, item) in part.starts.iter().zip(items) {
-        append_object(alloc, part.name, *start, item, &mut out)?;
+    ghost as_lines = { λ name keyed. keyed_line name (keyed.0, view_keyed keyed.1) };
+
+    fn append_records(
+        &self,
+        alloc: Global,
+        layout: Layout,
+        out: &mut String,
+    ) -> Result<(), AllocError> {
+        append_lhs_line(&self.lhs_key, out)?;
+        append_record_of_text(alloc, layout, self.text.as_str(), out)
     }
-    Ok(out)
-}
 
-// What is written for a part.
-fn part_text(
-    alloc: Global,
-    output: Output,
-    part: Part<'_>,
-    refusal: Option<&ParseError>,
-    items: &[Keyed],
-) -> Result<String, AllocError>
-    ensures { IfOk result (λ out. string_bytes out ≡ part_keyed output part.entry.name.now part.entry.starts.now (option_copied refusal.entry) (map view_keyed items.now)) }
-{
-    match output {
-        Output::Records(layout) => part_records(alloc, layout, items),
-        Output::Objects { .. } => {
-            let mut out = part_lines(alloc, part, items)?;
-            append_refusal(alloc, part.name, refusal, &mut out)?;
-            Ok(out)
-        }
+    fn append_lines(
+        &self,
+        alloc: Global,
+        name: &str,
+        start: Start,
+        out: &mut String,
+    ) -> Result<(), AllocError> {
+        let object = keyed_object(alloc, name, start, self)?;
+        append_line(alloc, &object, out)
     }
 }
 
@@ -222,7 +183,7 @@ impl PartSink<Replacement> for KeyedItems {
         refusal: Option<&ParseError>,
         out: &mut Watched<W>,
     ) -> Result<(), Stop> {
-        let text = part_text(alloc, self.output, part, refusal, self.items.as_slice())?;
+        let text = part_text(alloc, self.output, part, refusal, &self.items)?;
         write_text(&text, out)?;
         self.items.clear();
         Ok(())

@@ -9,11 +9,12 @@ ghost use Rattle.souper_find.specs.Runs.{IsFillRun, IsFindRun, IsKeyedRun};
 
 use crate::answers::write_answers;
 use crate::keyed::write_keyed;
-use crate::search::{Output, Search};
+use crate::search::Search;
 use souper_format::watched::Watched;
 use souper_ir::ast::Replacement;
 use souper_lookup::store::Store;
 use souper_records::options::ReadOptions;
+use souper_records::output::Output;
 use souper_records::report::report_input;
 use souper_records::run::end_parts;
 use souper_stream::{ItemReader, read_with};

@@ -1,10 +1,7 @@
 //! What a store is asked, and how its answers are written.
 
-ghost use Rattle.std.specs.Prelude.{◌≡◌};
-ghost use Rattle.souper_find.specs.Answers.{renames};
-
 use souper_lookup::store::Store;
-use souper_records::layout::Layout;
+use souper_records::output::Output;
 
 /// What is written for a left-hand side.
 #[derive(Clone, Copy, Debug, PartialEq, Eq)]
@@ -19,32 +16,6 @@ pub enum Choice {
     Unanswered,
 }
 
-/// How it is written.
-#[derive(Clone, Copy, Debug, PartialEq, Eq)]
-pub enum Output {
-    /// By records.
-    Records(Layout),
-
-    /// By JSON objects, each on a line of its own ([`write_objects`](souper_records::objects::write_objects)), which have the location of the
-    /// left-hand side; with `rename` the names in the texts are by the printed order.
-    Objects {
-        /// Whether they are.
-        rename: bool,
-    },
-}
-
-impl Output {
-    // Whether the names in texts are by the printed order.
-    pub(crate) fn renames(self) -> bool
-        ensures { result ≡ renames self }
-    {
-        match self {
-            Output::Records(layout) => layout.rename,
-            Output::Objects { rename } => rename,
-        }
-    }
-}
-
 /// A store, and what is written for each left-hand side that it is asked for.
 #[derive(Clone, Copy)]
 pub struct Search<'s> {
@@ -54,6 +25,6 @@ pub struct Search<'s> {
     /// What is written.
     pub choice: Choice,
 
-    /// How it is written.
+    /// How it is written. Objects have the location of the left-hand side.
     pub output: Output,
 }

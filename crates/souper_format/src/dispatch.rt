@@ -38,7 +38,7 @@ pub fn run_command<F: TextFiles, R: Read, W: Write, E: Write>(
         None => usage(err),
         Some(Command::Format(kind)) => format_run(alloc, kind, input, out, err),
         Some(Command::Same(kind, a, b)) => {
-            compare_files(files, alloc, kind, a.as_str(), b.as_str(), out, err)
+            compare_files(files, alloc, kind, (a.as_str(), b.as_str()), out, err)
         }
     }
 }

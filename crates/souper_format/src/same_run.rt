@@ -73,8 +73,8 @@ fn compare<W: Write, E: Write>(
     }
 }
 
-/// Reads items of the kind from the file at `a`, then from the one at `b`, writes `same` or `different` and a newline
-/// to `out`, and returns the status of the program. The lists are the same as by [`same`](crate::same::same).
+/// Reads items of the kind from the file at the first path, then from the one at the second, writes `same` or `different`
+/// and a newline to `out`, and returns the status of the program. The lists are the same as by [`same`](crate::same::same).
 ///
 /// - 0: done, and nothing was written to `err`.
 /// - 1: the text of a file spells no list of such items. Nothing was written to `out`, and to `err` the refusal, which
@@ -87,14 +87,14 @@ pub fn compare_files<F: TextFiles, W: Write, E: Write>(
     files: &F,
     alloc: Global,
     kind: Kind,
-    a: &str,
-    b: &str,
+    paths: (&str, &str),
     out: &mut Watched<W>,
     err: &mut Watched<E>,
 ) -> u8
-    ensures { IsFilesRun (item_type_of kind) (F.gives files.now) a.now b.now
+    ensures { IsFilesRun (item_type_of kind) (F.gives files.now) paths.entry.0.now paths.entry.1.now
         (stream W.contents out.old out.new) (stream E.contents err.old err.new) result }
 {
+    let (a, b) = paths;
     let first = match items_of_read(alloc, kind, files.read_text(a), a) {
         Ok(items) => items,
         Err(error) => return report_error(alloc, &error, err),
@@ -111,13 +111,12 @@ pub fn same_run<R: Files + AllocGlobal, W: Write, E: Write>(
     rt: &R,
     alloc: Global,
     kind: Kind,
-    a: &str,
-    b: &str,
+    paths: (&str, &str),
     out: &mut Watched<W>,
     err: &mut Watched<E>,
 ) -> u8
-    ensures { (first : FileRead) × (second : FileRead) × IsSameRun (item_type_of kind) a.now b.now first second
+    ensures { (first : FileRead) × (second : FileRead) × IsSameRun (item_type_of kind) paths.entry.0.now paths.entry.1.now first second
         (stream W.contents out.old out.new) (stream E.contents err.old err.new) result }
 {
-    compare_files(rt, alloc, kind, a, b, out, err)
+    compare_files(rt, alloc, kind, paths, out, err)
 }

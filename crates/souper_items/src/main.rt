@@ -16,7 +16,7 @@ use souper_cli::excerpt::Style;
 use souper_cli::progress::{Meter, Metered};
 use souper_cli::terminal::Terminal;
 use souper_find::run::{fill_run, find_run, keyed_run};
-use souper_find::search::{Output, Search};
+use souper_find::search::Search;
 use souper_format::command::Kind;
 use souper_format::watched::Watched;
 use souper_hash::Seed;
@@ -25,6 +25,7 @@ use souper_lookup::store::Store;
 use souper_records::check::check_run;
 use souper_records::layout::Layout;
 use souper_records::options::ReadOptions;
+use souper_records::output::Output;
 use souper_records::report::{report_fault, report_memory};
 use souper_records::run::{
     count_run, each_run_with, objects_run_with, report_output, uniq_run_with,

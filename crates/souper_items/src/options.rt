@@ -1,9 +1,10 @@
 //! The command line.
 
 use clap::ArgMatches;
-use souper_find::search::{Choice, Output};
+use souper_find::search::Choice;
 use souper_format::command::Kind;
 use souper_records::layout::{Delimiter, Layout, Summary};
+use souper_records::output::Output;
 
 /// When errors have colors.
 #[derive(Clone, Copy)]

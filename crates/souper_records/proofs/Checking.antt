@@ -1,26 +1,16 @@
--- Canonical texts. A text has one list of items, so it is canonical or not.
-use Rattle.std.proofs.Common.{◌≡◌, inl, inr, ℕ, Bool, false, List, [], Option, Some, refl, sym, ap, ◌∙◌, subst, None, IsNone, IfNone, IfSome}
+-- Canonical streams. A text has one list of items, so it is canonical or not.
+use Rattle.std.proofs.Common.{inl, inr, ℕ, Bool, false, List, [], Option, refl, sym, ap, ◌∙◌, subst}
 use Rattle.souper_records.specs.declared.stop.ReadFault.{ReadFault}
 use Rattle.std.proofs.KnownBytes.{Appends-nil, Appends-trans, Appends-kept}
 use Rattle.souper_records.proofs.Prelude.{Item, ItemType, TextSpells, texts_of, concat, all_lines, Watched, Stream, stream, IsGiven, IsGivenNothing}
 use Rattle.souper_ir.proofs.Items.Lists.{text_alone}
 use Rattle.souper_diff.specs.declared.comparison.Comparison.{Comparison}
-use Rattle.souper_diff.specs.Comparisons.{DifferOnLine, DifferFrom, IsCompared}
-use Rattle.souper_records.specs.Canonical.{IsCanonical, IsOtherLine, other_line, ReportedOtherLine, IsWhole, IsCheckRun}
+use Rattle.souper_diff.specs.Comparisons.{DifferFrom, IsCompared}
+use Rattle.souper_records.specs.Canonical.{other_line, ReportedOtherLine, IsWhole, IsCheckRun}
 use Rattle.souper_records.specs.Outcomes.{parts_of, items_of, WritesParts, WroteParts}
 use Rattle.souper_format.specs.Reporting.{Reported}
 use Rattle.souper_records.specs.Reports.{IsMemoryLine, IsReadFaultLine, ReportedReadFault}
 use Rattle.souper_records.proofs.Outcomes.{none_reported}
-
--- ---- canonical texts
-
--- whether it is, and on which line it first differs, from its canonical texts
-module _ (k : ItemType) (source : List ℕ) (items : List Item) (spelled : TextSpells k source items) where
-  pub judged : (r : Option ℕ) → IfNone r (source ≡ texts_of items) → IfSome r (DifferOnLine source (texts_of items)) → ((IsNone r → IsCanonical k source) × (IsCanonical k source → IsNone r)) × IfSome r (IsOtherLine k source)
-  judged None same differs = (((λ none. (items, spelled, same)), (λ h. refl)), tt)
-  judged (Some line) same differs = (((λ none. absurd cc), (λ h. absurd (differs.0 (h.2 ∙ ap texts_of (text_alone k source h.0 items h.1 spelled))))), (items, spelled, differs))
-
--- ---- streams
 
 -- the whole stream was read, and compared with the canonical texts of the items that it spells
 pub record IsChecked (k : ItemType) (before after : Option (List ℕ)) (c : Comparison) : Type 0 where

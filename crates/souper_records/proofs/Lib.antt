@@ -3,4 +3,5 @@ mod Checking
 mod Distinct
 mod Seeing
 pub mod Outcomes
+pub mod Outputs
 mod ObjectLines

@@ -4,6 +4,7 @@ pub mod Stops
 pub mod Reports
 pub mod Outcomes
 pub mod Objects
+pub mod Outputs
 pub mod Runs
 pub mod Canonical
 pub mod Distinct

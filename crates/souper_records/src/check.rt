@@ -1,7 +1,7 @@
-//! Whether a text is canonical.
-ghost use Rattle.std.specs.Prelude.{◌≡◌, ◌↔◌, Some, IfOk, IfErr, IfSome, IfNone, IsNone, string_bytes};
-ghost use Rattle.souper_records.specs.Prelude.{IsStrError, concat, all_lines, stream};
-ghost use Rattle.souper_records.specs.Canonical.{IsCanonical, IsOtherLine, ReportedOtherLine, IsCheckRun};
+//! Whether a stream is canonical.
+ghost use Rattle.std.specs.Prelude.{◌≡◌, string_bytes};
+ghost use Rattle.souper_records.specs.Prelude.{concat, all_lines, stream};
+ghost use Rattle.souper_records.specs.Canonical.{ReportedOtherLine, IsCheckRun};
 ghost use Rattle.souper_diff.specs.Comparisons.{IsCompared};
 ghost use Rattle.souper_records.specs.Outcomes.{parts_of, items_of};
 ghost use Rattle.souper_records.specs.Records.{records_of};
@@ -10,10 +10,9 @@ use crate::each::Records;
 use crate::layout::PLAIN;
 use crate::options::ReadOptions;
 use crate::parts::{Part, PartSink, Source, write_parts};
-use crate::records::records_of_text;
 use crate::report::{report_line, report_memory, report_read_fault};
 use crate::stop::Stop;
-use souper_diff::comparison::{Comparison, differing_line};
+use souper_diff::comparison::Comparison;
 use souper_format::watched::Watched;
 use souper_ir::ast::{Arena, Statement};
 use souper_ir::parse::{ParseError, Sink, WholeItem};
@@ -21,23 +20,6 @@ use souper_stream::{ChunkSink, StreamItem};
 use std::alloc::{AllocError, Global};
 use std::io;
 use std::io::{BufRead, Write};
-
-/// The line of the text, counted from 1, on which it first differs from what [`format_text`](souper_format::items::format_text) returns
-/// for it; none if it is canonical. If the text is a beginning of that, it is the line on which the rest would begin.
-///
-/// It fails like [`parse_into`](souper_ir::parse::parse_into): the text spells no such items, or memory ran out. The error shows `name` as the name of the text.
-pub fn first_other_line<T: WholeItem + Drop>(
-    alloc: Global,
-    source: &str,
-    name: &str,
-) -> Result<Option<usize>, ParseError>
-    ensures canonical { IfOk result (λ line. IsNone line ↔ IsCanonical T.item_type source.now) }
-    ensures other { IfOk result (λ line. IfSome line (IsOtherLine T.item_type source.now)) }
-    ensures refused { IfErr result (λ e. IsStrError T.item_type (Some name.now) source.now e) }
-{
-    let records = records_of_text::<T>(alloc, PLAIN, source, Some(name))?;
-    Ok(differing_line(source.as_bytes(), records.as_bytes()))
-}
 
 // Reports on which line the text of this name is not canonical, and returns the status of the program.
 fn report_other_line<E: Write>(alloc: Global, name: &str, line: usize, err: &mut Watched<E>) -> u8
@@ -94,7 +76,8 @@ impl<T: StreamItem + Drop> PartSink<T> for Checked {
     }
 }
 
-/// Reads the stream part by part, and returns the status of the program: whether it is canonical ([`first_other_line`]).
+/// Reads the stream part by part, and returns the status of the program: whether it is canonical, what
+/// [`format_text`](souper_format::items::format_text) returns for it.
 ///
 /// - 0: it is, and nothing was written to `err`.
 /// - 1: it is not, and a line was written to `err` that says so, with the name and the number of the first line that differs:

@@ -10,6 +10,7 @@ pub mod laws;
 pub mod layout;
 pub mod objects;
 pub mod options;
+pub mod output;
 pub mod parts;
 pub mod records;
 pub mod report;

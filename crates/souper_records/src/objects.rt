@@ -2,13 +2,14 @@
 ghost use Rattle.std.specs.Prelude.{◌≡◌, ◌++◌, true, false, map, Option, IfOk, OnOk, option_copied, string_bytes};
 ghost use Rattle.std.specs.Io.KnownBytes.{Appends};
 ghost use Rattle.souper_records.specs.Prelude.{stream, has_failed};
-ghost use Rattle.souper_records.specs.Objects.{item_object, refusal_object, refusal_line, object_line, text_line, text_lines, objects_of, optional_number, optional_string, WritesObjects};
+ghost use Rattle.souper_records.specs.Objects.{item_object, refusal_object, refusal_line, object_line, objects_of, optional_number, optional_string, WritesObjects};
 ghost use Rattle.souper_records.specs.Outcomes.{input_stream, IsPartsResult};
 ghost use Rattle.souper_records.specs.Uniques.{text_by};
 ghost use Rattle.serde_json.specs.View.{view};
 ghost use Rattle.serde_json.specs.Written.{has_float};
 
 use crate::options::ReadOptions;
+use crate::output::{Output, part_text};
 use crate::parts::{Part, PartSink, Source, write_parts};
 use crate::records::{key_of, push_last_text};
 use crate::stop::{Stop, write_text};
@@ -40,8 +41,13 @@ fn string(alloc: Global, text: Option<&str>) -> Result<Value, AllocError>
     }
 }
 
-// The object of an item with this text, which begins at `start`.
-fn item_object(alloc: Global, name: &str, start: Start, text: &str) -> Result<Value, AllocError>
+/// The object of an item with this text, which begins at `start` in the stream of this name ([`write_objects`]).
+pub(crate) fn item_object(
+    alloc: Global,
+    name: &str,
+    start: Start,
+    text: &str,
+) -> Result<Value, AllocError>
     ensures { IfOk result (λ value. view value ≡ item_object name.now start text.now) }
 {
     let key = key_of(alloc, text)?;
@@ -100,39 +106,6 @@ pub fn append_refusal(
     Ok(())
 }
 
-/// Appends the line of the object of an item with this text, which begins at `start` in the stream of this name ([`write_objects`]). The
-/// error is out of memory.
-pub fn append_item(
-    alloc: Global,
-    name: &str,
-    start: Start,
-    text: &str,
-    out: &mut String,
-) -> Result<(), AllocError>
-    ensures { OnOk result (string_bytes out.new ≡ string_bytes out.old ++ text_line name.now (start, text.now)) }
-{
-    let object = item_object(alloc, name, start, text)?;
-    append_line(alloc, &object, out)
-}
-
-// The lines of a part, whose items, or the ones that it begins with, have these texts.
-fn part_lines(
-    alloc: Global,
-    part: Part<'_>,
-    refusal: Option<&ParseError>,
-    texts: &[String],
-) -> Result<String, AllocError>
-    ensures { IfOk result (λ out. string_bytes out ≡ text_lines part.entry.name.now part.entry.starts.now (map string_bytes texts.now)
-        ++ refusal_line part.entry.name.now (option_copied refusal.entry)) }
-{
-    let mut out = String::new(alloc);
-    for (start, text) in part.starts.iter().zip(texts) {
-        append_item(alloc, part.name, *start, text.as_str(), &mut out)?;
-    }
-    append_refusal(alloc, part.name, refusal, &mut out)?;
-    Ok(out)
-}
-
 // The texts of the items of a part.
 #[derive(Drop)]
 struct Objects {
@@ -183,7 +156,10 @@ impl<T: StreamItem + Drop> PartSink<T> for Objects {
         refusal: Option<&ParseError>,
         out: &mut Watched<W>,
     ) -> Result<(), Stop> {
-        let lines = part_lines(alloc, part, refusal, self.texts.as_slice())?;
+        let output = Output::Objects {
+            rename: self.rename,
+        };
+        let lines = part_text(alloc, output, part, refusal, &self.texts)?;
         write_text(&lines, out)?;
         self.texts.clear();
         Ok(())

@@ -2,7 +2,7 @@
 ghost use Rattle.std.specs.Prelude.{◌≡◌, ◌++◌, ◌∷◌, [], map, flat_map, IfOk, IfErr, IsOkAnd, OnOk, option_copied, string_bytes};
 ghost use Rattle.souper_records.specs.Prelude.{text_of, renamed, WellFormed, IsStrError};
 ghost use Rattle.souper_graph.specs.Syntax.Tokens.{IsLastGap};
-ghost use Rattle.souper_records.specs.Records.{chosen, key_of, record_of_text, record_of, AreRecordsOf};
+ghost use Rattle.souper_records.specs.Records.{chosen, key_of, record_of_text, AreRecordsOf};
 ghost use Rattle.souper_records.specs.Uniques.{text_by};
 
 use crate::each::Records;
@@ -21,22 +21,6 @@ fn append_canonical<T: Item>(item: &T, out: &mut String) -> Result<(), AllocErro
     match item.append_text(out) {
         Ok(()) => Ok(()),
         // A well-formed item has no bad id, so the error is out of memory.
-        Err(_) => Err(AllocError),
-    }
-}
-
-// Appends the canonical text of the item, or of the item with names by its printed order.
-#[tactic(auto, using(souper_graph::proofs::Judging::Needed::well_formed_below))]
-fn append_text<T: Item + Drop>(rename: bool, item: &T, out: &mut String) -> Result<(), AllocError>
-    requires { WellFormed (T.view item.now) }
-    ensures text { OnOk result (string_bytes out.new ≡ string_bytes out.old ++ text_of (chosen rename (T.view item.now))) }
-    ensures well_formed { OnOk result (WellFormed (chosen rename (T.view item.now))) }
-{
-    if !rename {
-        return append_canonical(item, out);
-    }
-    match item.renamed() {
-        Ok(copy) => append_canonical(&copy, out),
         Err(_) => Err(AllocError),
     }
 }
@@ -127,24 +111,6 @@ pub(crate) fn records_of_texts(
         append_record_of_text(alloc, layout, text.as_str(), &mut out)?;
     }
     Ok(out)
-}
-
-/// Appends the record of the item. The error is out of memory.
-///
-/// `text` is for its canonical text, so that the records of many items take one allocation.
-pub fn append_record<T: Item + Drop>(
-    alloc: Global,
-    layout: Layout,
-    item: &T,
-    text: &mut String,
-    out: &mut String,
-) -> Result<(), AllocError>
-    requires { WellFormed (T.view item.now) }
-    ensures { OnOk result (string_bytes out.new ≡ string_bytes out.old ++ record_of layout (T.view item.now)) }
-{
-    text.clear();
-    append_text(layout.rename, item, text)?;
-    append_record_of_text(alloc, layout, text.as_str(), out)
 }
 
 /// The records of the items that a text spells, in order. An item's record is made when it has been read, and the item is dropped.

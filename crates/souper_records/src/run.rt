@@ -1,5 +1,5 @@
 //! Runs over one stream, by their statuses.
-ghost use Rattle.std.specs.Prelude.{◌≡◌, true, false, List};
+ghost use Rattle.std.specs.Prelude.{◌≡◌, true, List};
 ghost use Rattle.souper_records.specs.Prelude.{ItemType, Item, stream, has_failed};
 ghost use Rattle.souper_records.specs.Uniques.{HasSeen};
 ghost use Rattle.souper_records.specs.Outcomes.{input_stream};
@@ -72,46 +72,6 @@ pub fn end_parts<W: Write, E: Write>(
     }
 }
 
-/// Writes the record of each item of the stream to `out`, up to the first refusal, as [`each_run_with`] does.
-pub fn each_run<T: StreamItem + Drop, R: BufRead, W: Write, E: Write>(
-    alloc: Global,
-    layout: Layout,
-    reader: &mut R,
-    name: &str,
-    out: &mut Watched<W>,
-    err: &mut Watched<E>,
-) -> u8
-    ensures { IsRecordsRun layout (record { kind = T.item_type; name = name.now; recover = false; before = R.remaining reader.old }) (R.remaining reader.new)
-        (stream W.contents out.old out.new) (stream E.contents err.old err.new) result }
-{
-    let options = ReadOptions {
-        name,
-        recover: false,
-        line_buffered: false,
-    };
-    each_run_with::<T, R, W, E>(alloc, layout, options, reader, out, err)
-}
-
-/// Writes the record of each item of the stream to `out`, and resumes after a refusal, as [`each_run_with`] does.
-pub fn each_going_on_run<T: StreamItem + Drop, R: BufRead, W: Write, E: Write>(
-    alloc: Global,
-    layout: Layout,
-    reader: &mut R,
-    name: &str,
-    out: &mut Watched<W>,
-    err: &mut Watched<E>,
-) -> u8
-    ensures { IsRecordsRun layout (record { kind = T.item_type; name = name.now; recover = true; before = R.remaining reader.old }) (R.remaining reader.new)
-        (stream W.contents out.old out.new) (stream E.contents err.old err.new) result }
-{
-    let options = ReadOptions {
-        name,
-        recover: true,
-        line_buffered: false,
-    };
-    each_run_with::<T, R, W, E>(alloc, layout, options, reader, out, err)
-}
-
 /// Writes the record of each item of the stream to `out` ([`write_records`]), and returns the status of the program.
 ///
 /// - 0: done, no part was refused, and nothing was written to `err`.
@@ -154,72 +114,6 @@ pub fn objects_run_with<T: StreamItem + Drop, R: BufRead, W: Write, E: Write>(
     let name = options.name;
     let parts = write_objects::<T, R, W, E>(alloc, rename, options, reader, out, err);
     end_parts(alloc, name, parts, out, err)
-}
-
-/// Writes a JSON object for each item of the stream and each refusal to `out`, and resumes after a refusal, as [`objects_run_with`] does.
-pub fn objects_run<T: StreamItem + Drop, R: BufRead, W: Write, E: Write>(
-    alloc: Global,
-    rename: bool,
-    reader: &mut R,
-    name: &str,
-    out: &mut Watched<W>,
-    err: &mut Watched<E>,
-) -> u8
-    ensures { IsObjectsRun rename (record { kind = T.item_type; name = name.now; recover = true; before = R.remaining reader.old }) (R.remaining reader.new)
-        (stream W.contents out.old out.new) (stream E.contents err.old err.new) result }
-{
-    let options = ReadOptions {
-        name,
-        recover: true,
-        line_buffered: false,
-    };
-    objects_run_with::<T, R, W, E>(alloc, rename, options, reader, out, err)
-}
-
-/// Writes the record of each item of the stream that is the same graph as no earlier one to `out`, up to the first refusal, as
-/// [`uniq_run_with`] does.
-pub fn uniq_run<T: StreamItem + Drop, R: BufRead, W: Write, E: Write>(
-    _alloc: Global,
-    layout: Layout,
-    seen: &mut Seen,
-    reader: &mut R,
-    name: &str,
-    out: &mut Watched<W>,
-    err: &mut Watched<E>,
-) -> u8
-    ensures { (earlier : List Item) → HasSeen T.item_type layout.rename earlier seen.old
-        → IsDistinctRun layout earlier (record { kind = T.item_type; name = name.now; recover = false; before = R.remaining reader.old }) (R.remaining reader.new)
-        (stream W.contents out.old out.new) seen.new (stream E.contents err.old err.new) result }
-{
-    let options = ReadOptions {
-        name,
-        recover: false,
-        line_buffered: false,
-    };
-    uniq_run_with::<T, R, W, E>(layout, options, seen, reader, out, err)
-}
-
-/// Writes the record of each item of the stream that is the same graph as no earlier one to `out`, and resumes after a refusal, as
-/// [`uniq_run_with`] does.
-pub fn uniq_going_on_run<T: StreamItem + Drop, R: BufRead, W: Write, E: Write>(
-    _alloc: Global,
-    layout: Layout,
-    seen: &mut Seen,
-    reader: &mut R,
-    name: &str,
-    out: &mut Watched<W>,
-    err: &mut Watched<E>,
-) -> u8
-    ensures { (earlier : List Item) → HasSeen T.item_type layout.rename earlier seen.old
-        → IsDistinctRun layout earlier (record { kind = T.item_type; name = name.now; recover = true; before = R.remaining reader.old }) (R.remaining reader.new)
-        (stream W.contents out.old out.new) seen.new (stream E.contents err.old err.new) result }
-{
-    let options = ReadOptions {
-        name,
-        recover: true,
-        line_buffered: false,
-    };
-    uniq_run_with::<T, R, W, E>(layout, options, seen, reader, out, err)
 }
 
 /// Writes the record of each item of the stream that is the same graph as no earlier one to `out` ([`write_distinct`]), and returns the

@@ -1,5 +1,4 @@
 //! The functions of the program for stores: the records of items.
-mod appended;
 mod checks;
 mod closed;
 mod faults;
@@ -10,4 +9,5 @@ mod objects;
 mod pauses;
 mod streams;
 mod support;
+mod texts;
 mod uniques;

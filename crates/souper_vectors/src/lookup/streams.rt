@@ -1,11 +1,12 @@
 //! What is written for a stream of left-hand sides.
 
 use souper_find::run::{fill_run, find_run};
-use souper_find::search::{Choice, Output, Search};
+use souper_find::search::{Choice, Search};
 use souper_format::watched::Watched;
 use souper_lookup::store::Store;
 use souper_records::layout::{Delimiter, Layout, PLAIN};
 use souper_records::options::ReadOptions;
+use souper_records::output::Output;
 use std::alloc::Global;
 use std::process::Abort;
 

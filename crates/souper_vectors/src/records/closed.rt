@@ -4,7 +4,8 @@ use crate::records::support::{Command, run_to};
 use souper_format::watched::Watched;
 use souper_ir::ast::LeftHandSide;
 use souper_records::layout::{PLAIN, Summary};
-use souper_records::run::{BROKEN_PIPE, count_run, uniq_run};
+use souper_records::options::ReadOptions;
+use souper_records::run::{BROKEN_PIPE, count_run, uniq_run_with};
 use souper_records::seen::Seen;
 use std::alloc::Global;
 use std::io;
@@ -94,12 +95,16 @@ fn closed_pipe_has_no_counts(rt: HostRuntime) {
     let mut sink = Watched::new(io::sink());
     let mut out = Watched::new(Pipe { room: 5 });
     let mut err = Watched::new(&mut reported);
-    let first = uniq_run::<LeftHandSide, Reader<'_>, io::Sink, &mut Vec<u8>>(
-        alloc,
+    let options = ReadOptions {
+        name: "a.opt",
+        recover: false,
+        line_buffered: false,
+    };
+    let first = uniq_run_with::<LeftHandSide, Reader<'_>, io::Sink, &mut Vec<u8>>(
         PLAIN,
+        options,
         &mut seen,
         &mut reader,
-        "a.opt",
         &mut sink,
         &mut err,
     );

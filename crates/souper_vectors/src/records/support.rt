@@ -3,9 +3,7 @@ use crate::checks::{Ran, equal, text};
 use souper_format::watched::Watched;
 use souper_records::layout::{Layout, PLAIN};
 use souper_records::options::ReadOptions;
-use souper_records::run::{
-    each_going_on_run, each_run, each_run_with, objects_run, uniq_going_on_run, uniq_run,
-};
+use souper_records::run::{each_run_with, objects_run_with, uniq_run_with};
 use souper_records::seen::Seen;
 use souper_stream::StreamItem;
 use std::alloc::Global;
@@ -23,6 +21,21 @@ pub(crate) enum Command {
     Objects { file: &'static str, rename: bool },
 }
 
+// How the command reads a stream.
+fn read_options(command: Command) -> ReadOptions<'static> {
+    ReadOptions {
+        name: match command {
+            Command::Objects { file, .. } => file,
+            _ => "a.opt",
+        },
+        recover: matches!(
+            command,
+            Command::EachGoingOn | Command::UniqGoingOn | Command::Objects { .. }
+        ),
+        line_buffered: matches!(command, Command::EachByLines),
+    }
+}
+
 /// The status of a run of the command. The file is `a.opt` if the command names none.
 pub(crate) fn run_to<T: StreamItem + Drop, R: BufRead, W: Write, E: Write>(
     alloc: Global,
@@ -32,29 +45,19 @@ pub(crate) fn run_to<T: StreamItem + Drop, R: BufRead, W: Write, E: Write>(
     err: &mut Watched<E>,
 ) -> u8 {
     let mut seen = Seen::new(alloc);
+    let options = read_options(command);
     match command {
         Command::Each(layout) => {
-            each_run::<T, R, W, E>(alloc, layout, reader, "a.opt", out, err)
+            each_run_with::<T, R, W, E>(alloc, layout, options, reader, out, err)
         }
-        Command::EachGoingOn => {
-            each_going_on_run::<T, R, W, E>(alloc, PLAIN, reader, "a.opt", out, err)
-        }
-        Command::EachByLines => {
-            let options = ReadOptions {
-                name: "a.opt",
-                recover: false,
-                line_buffered: true,
-            };
+        Command::EachGoingOn | Command::EachByLines => {
             each_run_with::<T, R, W, E>(alloc, PLAIN, options, reader, out, err)
         }
-        Command::Uniq => {
-            uniq_run::<T, R, W, E>(alloc, PLAIN, &mut seen, reader, "a.opt", out, err)
+        Command::Uniq | Command::UniqGoingOn => {
+            uniq_run_with::<T, R, W, E>(PLAIN, options, &mut seen, reader, out, err)
         }
-        Command::UniqGoingOn => {
-            uniq_going_on_run::<T, R, W, E>(alloc, PLAIN, &mut seen, reader, "a.opt", out, err)
-        }
-        Command::Objects { file, rename } => {
-            objects_run::<T, R, W, E>(alloc, rename, reader, file, out, err)
+        Command::Objects { rename, .. } => {
+            objects_run_with::<T, R, W, E>(alloc, rename, options, reader, out, err)
         }
     }
 }

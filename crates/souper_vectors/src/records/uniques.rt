@@ -3,7 +3,8 @@ use crate::checks::{equal, text};
 use souper_format::watched::Watched;
 use souper_ir::ast::{LeftHandSide, RightHandSide};
 use souper_records::layout::{Delimiter, Layout, PLAIN, Summary};
-use souper_records::run::{count_run, uniq_run};
+use souper_records::options::ReadOptions;
+use souper_records::run::{count_run, uniq_run_with};
 use souper_records::seen::Seen;
 use souper_stream::StreamItem;
 use std::alloc::Global;
@@ -30,12 +31,16 @@ fn uniq<T: StreamItem + Drop, W: Write>(
     let mut reader = BufReader::with_capacity(alloc, capacity, bytes).expect(rt, source);
     let mut reported = Vec::new(alloc);
     let mut err = Watched::new(&mut reported);
-    uniq_run::<T, BufReader<&[u8]>, W, &mut Vec<u8>>(
-        alloc,
+    let options = ReadOptions {
+        name: "a.opt",
+        recover: false,
+        line_buffered: false,
+    };
+    uniq_run_with::<T, BufReader<&[u8]>, W, &mut Vec<u8>>(
         layout,
+        options,
         seen,
         &mut reader,
-        "a.opt",
         out,
         &mut err,
     )

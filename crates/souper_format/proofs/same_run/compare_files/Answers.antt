@@ -11,7 +11,7 @@ returns-in-Err g c =
     let err = stream g.E.Write.contents c.args.err.now c.report_error.new.err in (
       c.read_text.result,
       c.read_text.ensures,
-      inl (first_refused (item_type_of c.args.kind) c.args.a.now c.read_text.result out err c.in-Err.error c.report_error.result
+      inl (first_refused (item_type_of c.args.kind) c.args.paths.0.now c.read_text.result out err c.in-Err.error c.report_error.result
           (Keeps-refl _) c.in-Err.ensures.refused c.report_error.ensures),
     )
 
@@ -26,7 +26,7 @@ returns-in-Err-items_of_read g c =
         (
           c.read_text-2.result,
           c.read_text-2.ensures,
-          second_refused (item_type_of c.args.kind) c.args.a.now c.args.b.now c.read_text.result c.read_text-2.result
+          second_refused (item_type_of c.args.kind) c.args.paths.0.now c.args.paths.1.now c.read_text.result c.read_text-2.result
               (view_items c.in-Ok.items) out err c.in-Err-items_of_read.error c.report_error-in-Err-items_of_read.result
               (Keeps-refl _) c.in-Ok.ensures.spelled c.in-Err-items_of_read.ensures.refused
               c.report_error-in-Err-items_of_read.ensures,
@@ -46,7 +46,7 @@ returns g c =
         (
           c.read_text-2.result,
           c.read_text-2.ensures,
-          compared (item_type_of c.args.kind) c.args.a.now c.args.b.now c.read_text.result c.read_text-2.result
+          compared (item_type_of c.args.kind) c.args.paths.0.now c.args.paths.1.now c.read_text.result c.read_text-2.result
               c.in-Ok.items c.in-Ok-items_of_read.items out err c.compare.result kinds c.in-Ok.ensures.spelled
               c.in-Ok-items_of_read.ensures.spelled c.compare.ensures,
         ),

@@ -1,7 +1,11 @@
-use Rattle.std.proofs.Common.{◌≡◌, ◌++◌, map, sym, ◌∙◌}
+use Rattle.std.proofs.Common.{◌≡◌, ℕ, List, ◌++◌, map, sym, ◌∙◌}
 use Rattle.std.specs.String.{string_bytes}
 use Rattle.std.proofs.KnownBytes.{Appends-trans}
-use Rattle.souper_find.specs.Answers.{part_text}
+use Rattle.std.proofs.lemmas.List.Folds.{flat_map-map}
+use Rattle.souper_records.specs.Records.{record_of_text}
+use Rattle.souper_records.specs.Objects.{text_line}
+use Rattle.souper_records.proofs.Outputs.{part_text_viewed}
+use Rattle.souper_find.specs.Answers.{group_records, group_lines, groups_text}
 use Rattle.souper_find.specs.Views.{view_texts}
 use Rattle.souper_find.proofs.Answering.{answers_more}
 use Rattle.souper_find.proofs.answers.AnswersPartSinkLeftHandSide.write_part.Goals as goal
@@ -12,9 +16,10 @@ returns-clause-written g c = λ first start os before o wrote idle taken starts 
     let s = first.search in
     let groups = map view_texts c.args.self.now.groups.items in
     let held = rw wrote.0 at taken in
-    let written : string_bytes c.in_ok-text.text ≡ part_text s.output name o.starts o.refusal groups =
-    c.in_ok-text.ensures ∙ (λ i. part_text (held.0 i).output name (sym starts i) (sym refusal i) (map view_texts (c.as_slice.ensures.value i))) in (
+    let written : string_bytes c.in_ok-text.text ≡ groups_text s.output name o.starts o.refusal groups =
+    c.in_ok-text.ensures ∙ part_text_viewed _ _ group_records group_lines view_texts (λ l v. sym (flat_map-map (record_of_text l) string_bytes v.items)) (λ n at v. sym (flat_map-map (λ (t : List ℕ). text_line n (at, t)) string_bytes v.items)) _ _ _ _ _
+    ∙ (λ i. groups_text (held.0 i).output name (sym starts i) (sym refusal i) groups) in (
       held.0,
       λ entries h. (let (text, are, appended) = wrote.1 entries h in
-          (text ++ part_text s.output name o.starts o.refusal groups, answers_more s.choice s.output entries name os o text groups are (held.1 entries h), Appends-trans _ _ _ _ _ appended (rw written at c.in_ok-write_text.ensures.written))),
+          (text ++ groups_text s.output name o.starts o.refusal groups, answers_more s.choice s.output entries name os o text groups are (held.1 entries h), Appends-trans _ _ _ _ _ appended (rw written at c.in_ok-write_text.ensures.written))),
     )

@@ -1,16 +1,17 @@
 use Rattle.std.proofs.Common.{◌≡◌, ◌++◌, map, refl, sym, ap, ◌∙◌, append-nil, string_bytes}
 use Rattle.std.proofs.KnownBytes.{Appends-trans}
 use Rattle.std.proofs.lemmas.Grind.{flat_map-append}
-use Rattle.souper_records.specs.Objects.{text_lines, refusal_line, part_lines}
-use Rattle.souper_records.specs.Uniques.{text_by}
+use Rattle.souper_records.specs.Records.{record_of_text}
+use Rattle.souper_records.specs.Objects.{text_line, text_lines, refusal_line, part_lines}
+use Rattle.souper_records.proofs.Outputs.{part_text_viewed}
 use Rattle.souper_records.proofs.objects.ObjectsPartSink.write_part.Goals as goal
 
 pub returns-clause-written : goal.returns-clause-written
 returns-clause-written g c = λ first start os before o wrote idle taken starts text refusal.
     let name = c.args.part.name.now in
-    let texts : map string_bytes c.as_slice.result.now ≡ map (text_by before.rename) o.items = ap (map string_bytes) c.as_slice.ensures.value ∙ taken.1 in
     let lines : string_bytes c.in_ok-lines.lines ≡ part_lines before.rename name o =
-    c.in_ok-lines.ensures ∙ (λ i. text_lines name (sym starts i) (texts i) ++ refusal_line name (sym refusal i)) in
+    c.in_ok-lines.ensures ∙ part_text_viewed _ _ record_of_text text_line string_bytes (λ l v. refl) (λ n s v. refl) _ _ _ _ _
+    ∙ (λ i. text_lines name (sym starts i) (taken.1 i) ++ refusal_line name (sym refusal i)) in
     (taken.0 ∙ wrote.0, rw (flat_map-append, append-nil) (Appends-trans _ _ _ _ _ wrote.1 (rw (lines, wrote.0) at c.in_ok-write_text.ensures.written)))
 
 pub returns-clause-none : goal.returns-clause-none

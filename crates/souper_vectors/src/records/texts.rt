@@ -1,53 +1,23 @@
-//! Records of items that are in memory.
+//! Records of texts that are in memory.
 use crate::cases::joined_texts;
 use crate::records::support::{Command, runs};
 use souper_format::command::Kind;
 use souper_ir::ast::{LeftHandSide, Replacement, RightHandSide};
-use souper_ir::parse::{Sink, WholeItem, parse_into};
 use souper_records::layout::{Delimiter, Layout};
-use souper_records::records::append_record;
+use souper_records::records::records_of_text;
 use souper_stream::StreamItem;
-use std::alloc::{AllocError, Global};
+use std::alloc::Global;
 use std::process::Abort;
 
-// The record of each item that was taken.
-#[derive(Drop)]
-struct Appended {
-    alloc: Global,
-    layout: Layout,
-    text: String,
-    records: String,
-}
-
-impl<T: WholeItem + Drop> Sink<T> for Appended {
-    ghost holds = { λ first appended items. Unit {0} };
-
-    fn take(&mut self, item: T) -> Result<(), AllocError> {
-        append_record(
-            self.alloc,
-            self.layout,
-            &item,
-            &mut self.text,
-            &mut self.records,
-        )
-    }
-}
-
-// Appending the record of each item gives what a stream of them gives.
+// The records of a text are what a stream of it gives.
 fn has_the_records<T: StreamItem + Drop>(
     rt: &impl Abort,
     alloc: Global,
     layout: Layout,
     source: &str,
 ) {
-    let mut sink = Appended {
-        alloc,
-        layout,
-        text: String::new(alloc),
-        records: String::new(alloc),
-    };
-    parse_into::<T, Appended>(alloc, source, None, &mut sink).expect(rt, source);
-    let want = (0, sink.records.as_str(), "");
+    let records = records_of_text::<T>(alloc, layout, source, None).expect(rt, source);
+    let want = (0, records.as_str(), "");
     runs::<T>(rt, alloc, Command::Each(layout), (source, 9), want);
 }
 
