@@ -121,7 +121,7 @@ fn compare<R: Files + AllocGlobal>(
     let mut reported = [0u8; 100];
     let mut out = Watched::new(written.as_mut_slice());
     let mut err = Watched::new(reported.as_mut_slice());
-    let status = same_run(rt, alloc, Kind::Lhs, (first, second), &mut out, &mut err);
+    let status = same_run(rt, alloc, Kind::Lhs, first, second, &mut out, &mut err);
     let met = completed_if(alloc, status == want);
     equal((out.failed(), err.failed()), (false, false))?;
     if status == want {

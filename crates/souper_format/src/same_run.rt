@@ -111,12 +111,13 @@ pub fn same_run<R: Files + AllocGlobal, W: Write, E: Write>(
     rt: &R,
     alloc: Global,
     kind: Kind,
-    paths: (&str, &str),
+    a: &str,
+    b: &str,
     out: &mut Watched<W>,
     err: &mut Watched<E>,
 ) -> u8
-    ensures { (first : FileRead) × (second : FileRead) × IsSameRun (item_type_of kind) paths.entry.0.now paths.entry.1.now first second
+    ensures { (first : FileRead) × (second : FileRead) × IsSameRun (item_type_of kind) a.now b.now first second
         (stream W.contents out.old out.new) (stream E.contents err.old err.new) result }
 {
-    compare_files(rt, alloc, kind, paths, out, err)
+    compare_files(rt, alloc, kind, (a, b), out, err)
 }

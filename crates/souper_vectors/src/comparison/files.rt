@@ -162,14 +162,7 @@ fn compares<R: Files + AllocGlobal + Abort>(rt: &R, (first, second): (&str, &str
     let mut reported = Vec::new(rt.alloc());
     let mut out = Watched::new(&mut written);
     let mut err = Watched::new(&mut reported);
-    let status = same_run(
-        rt,
-        rt.alloc(),
-        Kind::Lhs,
-        (first, second),
-        &mut out,
-        &mut err,
-    );
+    let status = same_run(rt, rt.alloc(), Kind::Lhs, first, second, &mut out, &mut err);
     let ran = (status, text(&written), told(&reported));
     equal(rt, (first, second, ran), (first, second, want));
 }

@@ -12,11 +12,11 @@ use std::rt::Files;
 // The status of a comparison of two files of left-hand sides.
 fn compare<R: Files + AllocGlobal, W: Write, E: Write>(
     rt: &R,
-    paths: (&str, &str),
+    (first, second): (&str, &str),
     out: &mut Watched<W>,
     err: &mut Watched<E>,
 ) -> u8 {
-    same_run(rt, rt.alloc(), Kind::Lhs, paths, out, err)
+    same_run(rt, rt.alloc(), Kind::Lhs, first, second, out, err)
 }
 
 // A comparison with `first` has this status, and reports this line. `out` fails after `after` calls.

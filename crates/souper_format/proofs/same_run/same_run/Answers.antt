@@ -10,4 +10,4 @@ returns g c =
     let out = stream g.W.Write.contents c.args.out.now c.compare_files.new.out in
     let err = stream g.E.Write.contents c.args.err.now c.compare_files.new.err in
     let any : List ℕ → FileRead → Type 0 = λ path read. Unit {0} in
-    some_reads (item_type_of c.args.kind) any c.args.paths.0.now c.args.paths.1.now out err c.compare_files.result c.compare_files.ensures
+    some_reads (item_type_of c.args.kind) any c.args.a.now c.args.b.now out err c.compare_files.result c.compare_files.ensures
