@@ -11,7 +11,7 @@ use Rattle.souper_ir.specs.Continuation.{statement_continues, infer_continues, c
 use Rattle.souper_errors.specs.Errors.{at_end_of}
 use Rattle.souper_ir.specs.Parsing.{Parsing}
 use Rattle.souper_ir.specs.Reading.{cause_of, IfRefused, if_refused, IsRead, Fails, fails_later}
-use Rattle.souper_ir.specs.Grammar.{Free, NextStops, Starts, Took, NoFront, Refusal, peek_at}
+use Rattle.souper_ir.specs.Grammar.{Free, Starts, Took, NoFront, Refusal, peek_at}
 use Rattle.souper_ir.specs.Laws.Unique.{Free-from_NextStops, clash}
 use Rattle.souper_ir.specs.NodeReadings.{is_word}
 use Rattle.souper_ir.specs.Laws.Peeks.{peeked, peeked_yes, peeked_no, none_if_unread}

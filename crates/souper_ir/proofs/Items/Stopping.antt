@@ -5,7 +5,7 @@ use Rattle.souper_graph.specs.Values.{PlainStatement, PlainInfer, Item}
 use Rattle.souper_graph.specs.declared.ast.operands.«Type».{«Type» as Ty}
 use Rattle.souper_graph.specs.Syntax.Tokens.{Lexeme, open_paren}
 use Rattle.souper_graph.specs.Syntax.TokenLaws.{AreTokensOf}
-use Rattle.souper_graph.specs.Syntax.Spelling.{infer, ItemType, attribute as attribute_form, root_attribute as root_attribute_form}
+use Rattle.souper_graph.specs.Syntax.Spelling.{infer, ItemType, attribute as attribute_form}
 use Rattle.souper_lexer.specs.TokenView.{IsCut}
 use Rattle.souper_errors.specs.declared.error.ParseError.{ParseError}
 use Rattle.souper_ir.specs.declared.parse.item.Next.{Next}
