@@ -188,18 +188,12 @@ replaced_alone s new more i j r q a b c d e m n f g =
     let after : m.suffix ++ c ≡ n.suffix ++ d = append_cancel_left n.prefix (m.suffix ++ c) (n.suffix ++ d) (ap (λ (z : List Lexeme). z ++ (m.suffix ++ c)) (sym root.0) ∙ whole) in
     let rest = after_alone result result_continues result_opens result_alone s new more r q m.suffix n.suffix c d after m.second n.second f g in (
       m.whole ∙ ap (λ (z : List Lexeme). z ++ m.suffix) root.0 ∙ ap (λ (z : List Lexeme). n.prefix ++ z) rest.0 ∙ sym n.whole,
-      let first : ◌≡◌ {A = Tail} (new, replaced i r) (more, replaced i r) = ap (λ (z : List PlainStatement). (z, replaced i r)) rest.1 in
-          let second : ◌≡◌ {A = Tail} (more, replaced i r) (more, replaced j r) = ap (λ (z : PlainInfer). (more, replaced z r)) root.1 in
-          let third : ◌≡◌ {A = Tail} (more, replaced j r) (more, replaced j q) = ap (λ (z : Operand). (more, replaced j z)) rest.2 in
-          first ∙ second ∙ third,
+      let last : ◌≡◌ {A = Tail} (new, replaced i r) (more, replaced j q) = cc (root.1, rest.1, rest.2) in last,
     )
 
 -- with no further statements the last line alone counts
 same_tail : {A : Type 0} (end : A → Ending) (new more : List PlainStatement) (x y : A) → new ≡ [] → more ≡ [] → x ≡ y → ◌≡◌ {A = Tail} (new, end x) (more, end y)
-same_tail end new more x y none also same =
-    let first : ◌≡◌ {A = Tail} (new, end x) (more, end x) = ap (λ (z : List PlainStatement). (z, end x)) (none ∙ sym also) in
-    let second : ◌≡◌ {A = Tail} (more, end x) (more, end y) = ap (λ (z : _). (more, end z)) same in
-    first ∙ second
+same_tail end new more x y none also same = cc
 
 lines_alone : (s : Scope) (y z : Tail) (a b c d : List Lexeme) → a ++ c ≡ b ++ d → ending_type y.1 ≡ ending_type z.1 → tail_lines s y a → tail_lines s z b → Free (tail_continues y) c → Free (tail_continues z) d → (a ≡ b) × (y ≡ z)
 lines_alone s (new, inferred i) (more, inferred j) a b c d e t m n f g =
