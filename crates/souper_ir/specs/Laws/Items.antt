@@ -137,17 +137,11 @@ infer_opens s i ts h = rw (h.whole, h.first) (refl, λ v. statement_ends v (iden
 pub result_opens : (s : Scope) (r : Operand) (ts : List Lexeme) → result s r ts → Opens ts
 result_opens s r ts h = rw (h.whole, h.first) (refl, λ v. statement_ends v (ident (codes "result")) refl)
 
-cand_opens : (s : Scope) (c : PlainCand) (ts : List Lexeme) → cand s c ts → Opens ts
-cand_opens s c ts h = rw (h.whole, h.first) (refl, λ v. statement_ends v (ident (codes "cand")) refl)
-
-lines_open : (s : Scope) (y : Tail) (ts : List Lexeme) → tail_lines s y ts → Opens ts
-lines_open s (new, inferred i) ts h = infer_opens s i ts h.1
-lines_open s (new, resulting r) ts h = result_opens s r ts h.1
-lines_open s (new, replaced i r) ts h = subst Opens (sym h.whole) (opens_over h.prefix h.suffix (infer_opens s i h.prefix h.first))
-lines_open s (new, candidate c) ts h = cand_opens s c ts h.1
-
 pub tail_opens : (k : ItemType) (s : Scope) (y : Tail) (ts : List Lexeme) → TailOf k s y ts → Opens ts
-tail_opens k s y ts h = lines_open s y ts h.lines
+tail_opens k s (new, inferred i) ts h = infer_opens s i ts h.lines.1
+tail_opens k s (new, resulting r) ts h = result_opens s r ts h.lines.1
+tail_opens k s (new, replaced i r) ts h = subst Opens (sym h.lines.whole) (opens_over h.lines.prefix h.lines.suffix (infer_opens s i h.lines.prefix h.lines.first))
+tail_opens k s (new, candidate c) ts h = rw (h.lines.1.whole, h.lines.1.first) (refl, λ v. statement_ends v (ident (codes "cand")) refl)
 
 pub starts_as : (P Q : Lexeme → Bool) (ts : List Lexeme) → ((t : Lexeme) → P t ≡ true → Q t ≡ true) → Starts P ts → Starts Q ts
 starts_as P Q [] f h = absurd h
@@ -195,23 +189,20 @@ replaced_alone s new more i j r q a b c d e m n f g =
 same_tail : {A : Type 0} (end : A → Ending) (new more : List PlainStatement) (x y : A) → new ≡ [] → more ≡ [] → x ≡ y → ◌≡◌ {A = Tail} (new, end x) (more, end y)
 same_tail end new more x y none also same = cc
 
-lines_alone : (s : Scope) (y z : Tail) (a b c d : List Lexeme) → a ++ c ≡ b ++ d → ending_type y.1 ≡ ending_type z.1 → tail_lines s y a → tail_lines s z b → Free (tail_continues y) c → Free (tail_continues z) d → (a ≡ b) × (y ≡ z)
-lines_alone s (new, inferred i) (more, inferred j) a b c d e t m n f g =
-    let same = infer_alone s i j a b c d e m.1 n.1 f g in
-    (same.0, same_tail inferred new more i j m.0 n.0 same.1)
-lines_alone s (new, resulting r) (more, resulting q) a b c d e t m n f g =
-    let same = result_alone s r q a b c d e m.1 n.1 f g in
-    (same.0, same_tail resulting new more r q m.0 n.0 same.1)
-lines_alone s (new, candidate o) (more, candidate p) a b c d e t m n f g =
-    let same = cand_alone s o p a b c d e m.1 n.1 f g in
-    (same.0, same_tail candidate new more o p m.0 n.0 same.1)
-lines_alone s (new, replaced i r) (more, replaced j q) a b c d e t m n f g = replaced_alone s new more i j r q a b c d e m n f g
-lines_alone s (new, replaced i r) (more, candidate o) a b c d e t m n f g = absurd (cand_is_no_infer s o b (a ++ c) d n.1 (starts_ahead (is_word (codes "infer")) a c (replaced_begins s new i r a m)) e)
-lines_alone s (new, candidate o) (more, replaced j q) a b c d e t m n f g = absurd (cand_is_no_infer s o a (b ++ d) c m.1 (starts_ahead (is_word (codes "infer")) b d (replaced_begins s more j q b n)) (sym e))
-lines_alone s _ _ a b c d e t m n f g = absurd cc
-
 pub tail_alone : (k : ItemType) → Alone (TailOf k) tail_continues
-tail_alone k s y z a b c d e m n f g = lines_alone s y z a b c d e (m.type_is ∙ sym n.type_is) m.lines n.lines f g
+tail_alone k s (new, inferred i) (more, inferred j) a b c d e m n f g =
+    let same = infer_alone s i j a b c d e m.lines.1 n.lines.1 f g in
+    (same.0, same_tail inferred new more i j m.lines.0 n.lines.0 same.1)
+tail_alone k s (new, resulting r) (more, resulting q) a b c d e m n f g =
+    let same = result_alone s r q a b c d e m.lines.1 n.lines.1 f g in
+    (same.0, same_tail resulting new more r q m.lines.0 n.lines.0 same.1)
+tail_alone k s (new, candidate o) (more, candidate p) a b c d e m n f g =
+    let same = cand_alone s o p a b c d e m.lines.1 n.lines.1 f g in
+    (same.0, same_tail candidate new more o p m.lines.0 n.lines.0 same.1)
+tail_alone k s (new, replaced i r) (more, replaced j q) a b c d e m n f g = replaced_alone s new more i j r q a b c d e m.lines n.lines f g
+tail_alone k s (new, replaced i r) (more, candidate o) a b c d e m n f g = absurd (cand_is_no_infer s o b (a ++ c) d n.lines.1 (starts_ahead (is_word (codes "infer")) a c (replaced_begins s new i r a m.lines)) e)
+tail_alone k s (new, candidate o) (more, replaced j q) a b c d e m n f g = absurd (cand_is_no_infer s o a (b ++ d) c m.lines.1 (starts_ahead (is_word (codes "infer")) b d (replaced_begins s more j q b n.lines)) (sym e))
+tail_alone k s _ _ a b c d e m n f g = let t = m.type_is ∙ sym n.type_is in absurd cc
 
 -- ---- items
 
