@@ -1,12 +1,12 @@
 -- Lines and a text after them: together they have the tokens, and the items, of both.
-use Rattle.std.proofs.Common.{◌≡◌, ℕ, ◌+◌, ◌-◌, ◌<◌, ◌≤◌, Bool, true, false, ◌⊎◌, inl, inr, List, [], ◌∷◌, ◌++◌, length, refl, sym, ap, ◌∙◌, subst, arith, append_assoc, append-nil, length-append, drop}
+use Rattle.std.proofs.Common.{◌≡◌, ℕ, ◌+◌, ◌-◌, ◌<◌, ◌≤◌, Bool, true, false, ◌⊎◌, inl, inr, List, [], ◌∷◌, ◌++◌, length, refl, sym, ap, ◌∙◌, subst, arith, append_assoc, append-nil, length-append}
 use Rattle.std.specs.Prelude.{◌==◌, codes}
 use Rattle.std.specs.Char.{is_ascii_digit}
 use Rattle.std.proofs.lemmas.Bool.Decides.{nat_tests}
 use Rattle.std.proofs.lemmas.Grind.{flat_map-append}
 use Rattle.souper_graph.specs.Names.{is_name_char}
 use Rattle.souper_graph.specs.Values.{Item}
-use Rattle.souper_graph.specs.Syntax.Tokens.{Lexeme, ident, val_name, known_bits, int, comma, colon, equals, open_paren, close_paren, open_bracket, spelling, known_bits_word, is_bit, begins_int, AllAre, IsLexeme, continues, Stops, Piece, piece_text, IsPiece, IsGap, IsOneLine, IsLastComment, IsLastGap, Begins, IsTextOf}
+use Rattle.souper_graph.specs.Syntax.Tokens.{Lexeme, ident, val_name, known_bits, int, comma, colon, equals, open_paren, close_paren, open_bracket, spelling, known_bits_word, is_bit, AllAre, IsLexeme, continues, Stops, piece_text, IsPiece, IsGap, IsOneLine, IsLastComment, IsLastGap, Begins, IsTextOf}
 use Rattle.souper_graph.specs.Syntax.Spelling.{kinds, ItemType, items}
 use Rattle.souper_graph.proofs.Judging.Closed.{All-both}
 use Rattle.souper_lexer.proofs.TokenFront.{spelled_some}

@@ -6,17 +6,17 @@ use Rattle.souper_graph.specs.WellFormed.{WellFormed}
 use Rattle.souper_graph.specs.Values.{PlainStatement, Ending, inferred, resulting, replaced, candidate, Item}
 use Rattle.souper_errors.specs.declared.error.ParseError.{ParseError}
 use Rattle.souper_graph.specs.Syntax.Tokens.{Lexeme, IsLexeme}
-use Rattle.souper_graph.specs.Syntax.Spelling.{kinds, Scope, ItemType, item_after, items, TextSpells, statements, item}
+use Rattle.souper_graph.specs.Syntax.Spelling.{kinds, Scope, ItemType, item_after, items, TextSpells, item}
 use Rattle.souper_ir.specs.Continuation.{ending_continues, item_continues}
 use Rattle.souper_errors.specs.Errors.{at_end_of}
 use Rattle.souper_ir.specs.Parsing.{Cause, Parsing}
 use Rattle.souper_ir.specs.Reading.{cause_of, IfRefused, if_refused, IsRead, Fails}
 use Rattle.souper_ir.specs.Grammar.{NextStops, Starts, Took, NoFrontOf, LastGoesOn, Refusal, peek_at}
 use Rattle.souper_ir.specs.Laws.Peeks.{Answers, peeked, peeked_yes}
-use Rattle.souper_ir.specs.NodeReadings.{starts_statement, is_any}
-use Rattle.souper_ir.specs.Laws.Statements.{begins_line, starts_begins, infer_ends, operand_ends, cand_ends, statement_first}
+use Rattle.souper_ir.specs.NodeReadings.{is_any}
+use Rattle.souper_ir.specs.Laws.Statements.{begins_line, infer_ends, operand_ends, cand_ends}
 use Rattle.souper_ir.specs.Laws.Series.{starts_ahead, starts_stop, behind, Series, NoMember, EndsIn, LoopRefusal, all_alone, no_list, peek_refused, member_refused}
-use Rattle.souper_ir.specs.Laws.Items.{parted_item, item_alone}
+use Rattle.souper_ir.specs.Laws.Items.{starts_as, begun_by, parted_item, item_alone}
 use Rattle.souper_ir.specs.Items.{Tail, tail_lines}
 use Rattle.souper_ir.specs.ItemRuns.{ItemsTaken, SpellsAll, ListRefusal}
 use Rattle.souper_ir.specs.Sinks.{TakesOver}
@@ -37,16 +37,6 @@ tail_begins s (new, inferred i) ts h = rw (h.1.whole, h.1.first) refl
 tail_begins s (new, resulting r) ts h = rw (h.1.whole, h.1.first) refl
 tail_begins s (new, replaced i r) ts h = subst (λ (x : List Lexeme). Starts begins_line x) (sym h.whole) (starts_ahead begins_line h.prefix h.suffix (rw (h.first.whole, h.first.first) refl))
 tail_begins s (new, candidate c) ts h = rw (h.1.whole, h.1.first) refl
-
-starts_as : (P Q : Lexeme → Bool) (ts : List Lexeme) → ((t : Lexeme) → P t ≡ true → Q t ≡ true) → Starts P ts → Starts Q ts
-starts_as P Q [] f h = absurd h
-starts_as P Q (t ∷ ts) f h = f t h
-
-begun_by : (s : Scope) (vs : List PlainStatement) (front back : List Lexeme) → statements s vs front → Starts begins_line back → Starts begins_line (front ++ back)
-begun_by s [] front back m h = subst (λ (x : List Lexeme). Starts begins_line (x ++ back)) (sym m) h
-begun_by s (v ∷ vs) front back m h =
-    subst (λ (x : List Lexeme). Starts begins_line (x ++ back)) (sym m.whole)
-    (starts_ahead begins_line (m.prefix ++ m.suffix) back (starts_ahead begins_line m.prefix m.suffix (starts_as starts_statement begins_line m.prefix starts_begins (statement_first s v m.prefix m.first))))
 
 -- an item begins a line
 item_begins : (k : ItemType) (a : Item) (ts : List Lexeme) → item k a ts → Starts begins_line ts

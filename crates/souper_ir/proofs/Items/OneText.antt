@@ -1,7 +1,7 @@
 -- Lemmas. A canonical text spells the renumbered items and no others, so it is one text for each graph.
 use Rattle.std.proofs.Common.{◌≡◌, ℕ, List, [], ◌∷◌, ◌++◌, map, sym, ap, ◌∙◌, subst}
 use Rattle.std.specs.List.{AllByRecursion}
-use Rattle.souper_graph.specs.Values.{PlainStatement, Ending, inferred, resulting, replaced, candidate, Item}
+use Rattle.souper_graph.specs.Values.{Item}
 use Rattle.souper_graph.specs.WellFormed.{WellFormed}
 use Rattle.souper_graph.specs.Unneeded.{EachClosed, AllNeeded}
 use Rattle.souper_graph.specs.Text.{text_of, texts_of}
@@ -9,7 +9,7 @@ use Rattle.souper_graph.specs.Sameness.{renumbered, SameGraph}
 use Rattle.souper_graph.specs.Renaming.{SameUpToNames, renamed, IsRenamed}
 use Rattle.souper_graph.specs.ItemText.{IsWellFormedOf, AreWellFormed}
 use Rattle.souper_graph.specs.Syntax.Tokens.{Lexeme}
-use Rattle.souper_graph.specs.Syntax.Spelling.{kinds, ItemType, items, TextSpells, statements}
+use Rattle.souper_graph.specs.Syntax.Spelling.{kinds, ItemType, items, TextSpells}
 use Rattle.souper_graph.proofs.RoundTrip.ReadBack.{renumbered-closed, renumbered-needed, texts-read-back, same-graph-text}
 use Rattle.souper_graph.proofs.Judging.Needed.{well_formed_below}
 use Rattle.souper_graph.proofs.Sameness.Renumbered.{same-renumbered, ordered}

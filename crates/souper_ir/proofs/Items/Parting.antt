@@ -5,8 +5,7 @@ use Rattle.std.specs.List.{AllByRecursion}
 use Rattle.std.specs.Char.{encode_utf8}
 use Rattle.std.proofs.lemmas.List.{get_or_at}
 use Rattle.std.proofs.lemmas.Str.{encode_ascii, inside_one}
-use Rattle.souper_graph.specs.Syntax.Tokens.{Lexeme, spelling, continues, Stops, IsLexeme, Piece, space, comment, piece_text, IsPiece, IsGap, IsOneLine, IsLastComment, IsLastGap, Begins}
-use Rattle.souper_lexer.proofs.TokenFront.{spelled_some}
+use Rattle.souper_graph.specs.Syntax.Tokens.{Lexeme, spelling, continues, Stops, IsLexeme, Piece, space, comment, piece_text, IsPiece, IsGap, IsOneLine, IsLastGap, Begins}
 use Rattle.souper_errors.specs.Places.{IsLines}
 use Rattle.souper_ir.specs.Joining.{moved, TokensPart}
 use Rattle.souper_graph.proofs.Judging.Closed.{All-first}

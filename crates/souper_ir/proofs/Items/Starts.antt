@@ -37,16 +37,13 @@ pub begun : (k : ItemType) (items : List Item) (starts : List ℕ) (a : Item) (s
     → SpellEachFrom k items starts so.used → StartsAt start q.tokens → SpellEachFrom k (items ++ a ∷ []) (starts ++ start ∷ []) (so.used ++ took.used)
 begun k items starts a start p q r so took each at = each_push k items starts a start so.used took.used each (starts_used k a start took.used r.tokens q.tokens took.parts took.spelled at) took.spelled
 
-after_none : (starts : Option (List ℕ)) → starts ≡ option_map (λ before. before ++ []) starts
+pub after_none : (starts : Option (List ℕ)) → starts ≡ option_map (λ before. before ++ []) starts
 after_none None = refl
 after_none (Some starts) = ap Some (sym (append-nil starts))
 
 after_both : (starts : Option (List ℕ)) (xs ys : List ℕ) → option_map (λ before. before ++ ys) (option_map (λ before. before ++ xs) starts) ≡ option_map (λ before. before ++ (xs ++ ys)) starts
 after_both None xs ys = refl
 after_both (Some starts) xs ys = ap Some (append_assoc starts xs ys)
-
-pub keeps_none : (kept : Kept) → Keeps kept kept []
-keeps_none kept = after_none (starts_kept kept)
 
 pub keeps_both : (a b c : Kept) (xs ys : List ℕ) → Keeps a b xs → Keeps b c ys → Keeps a c (xs ++ ys)
 keeps_both a b c xs ys m n = n ∙ ap (option_map (λ before. before ++ ys)) m ∙ after_both (starts_kept a) xs ys
@@ -66,9 +63,6 @@ only_after (Some starts) xs = refl
 abbrev pub restarted : Memory → Option (List ℕ)
 restarted memory = option_map (λ before. []) (starts_of memory)
 
-pub only_kept : (a b : Memory) (old new : Kept) (xs : List ℕ) → starts_kept old ≡ restarted a → Keeps old new xs → starts_of b ≡ starts_kept new → HasStarts a b xs
-only_kept a b old new xs r k s = s ∙ k ∙ ap (option_map (λ before. before ++ xs)) r ∙ only_after (starts_of a) xs
-
 pub only_from : {S : Type 0} (holds : S → S → List Item → Type 0) (spells : List Item → List ℕ → Type 0) (a b : Memory) (old new : Kept) (p q : S) → starts_kept old ≡ restarted a → starts_of b ≡ starts_kept new → TakesFrom holds spells (Keeps old new) p q
     → TakesFrom holds spells (HasStarts a b) p q
-only_from holds spells a b old new p q r s t = record { items = t.items; starts = t.starts; spelled = t.spelled; taken = t.taken; has = only_kept a b old new t.starts r t.has s }
+only_from holds spells a b old new p q r s t = record { items = t.items; starts = t.starts; spelled = t.spelled; taken = t.taken; has = s ∙ t.has ∙ ap (option_map (λ before. before ++ t.starts)) r ∙ only_after (starts_of a) t.starts }

@@ -11,7 +11,7 @@ use Rattle.souper_ir.specs.Continuation.{statement_continues, infer_continues, c
 use Rattle.souper_errors.specs.Errors.{at_end_of}
 use Rattle.souper_ir.specs.Parsing.{Parsing}
 use Rattle.souper_ir.specs.Reading.{cause_of, IfRefused, if_refused, IsRead, Fails, fails_later}
-use Rattle.souper_ir.specs.Grammar.{Free, NextStops, Starts, Took, NoFront, Refusal, peek_at}
+use Rattle.souper_ir.specs.Grammar.{Free, Starts, Took, NoFront, Refusal, peek_at}
 use Rattle.souper_ir.specs.Laws.Unique.{Free-from_NextStops, clash}
 use Rattle.souper_ir.specs.NodeReadings.{is_word}
 use Rattle.souper_ir.specs.Laws.Peeks.{peeked, peeked_yes, peeked_no, none_if_unread}
@@ -127,11 +127,6 @@ cand_tail_refused e p h q seen bad =
 
 -- ---- an infer line, further statements and a result line
 
--- nothing of what follows an infer line continues it
-rest_over : (faulty : Bool) (s : Scope) (new : List PlainStatement) (i : PlainInfer) (r : Operand) (ts d : List Lexeme) → (statements s new · result (s ++ new) r) ts → NextStops (infer_continues i) faulty (ts ++ d)
-rest_over faulty s new i r ts d h =
-    subst (λ (x : List Lexeme). NextStops (infer_continues i) faulty (x ++ d)) (sym h.whole) (infer_over faulty s (s ++ new) i r new h.prefix h.suffix d h.first h.second)
-
 pub root_refused : (e : ParseError) (p h q : Parsing) → SeesInfer true p h → Refusal infer infer_continues e h q → TailRefusal replacement e p q
 root_refused e p h q seen bad =
     let look = peeked (is_word (codes "infer")) p h true seen.0 in
@@ -141,7 +136,7 @@ root_refused e p h q seen bad =
     none : Starts (is_word (codes "infer")) (kinds p.tokens) → NoFront infer infer_continues p → NoFront (TailOf replacement) tail_continues p
     none st f (new, replaced i r) front rest eq sp stop =
         let x = sp.lines in
-        f i x.prefix (x.suffix ++ rest) (eq ∙ split front x.prefix x.suffix rest x.whole) x.first (rest_over p.faulty p.scope new i r x.suffix rest x.second)
+        f i x.prefix (x.suffix ++ rest) (eq ∙ split front x.prefix x.suffix rest x.whole) x.first (infer_over p.faulty p.scope i r new x.suffix rest x.second)
     none st f (new, candidate c) front rest eq sp stop = cand_is_no_infer p.scope c front (kinds p.tokens) rest sp.lines.1 st eq
     none st f (new, _) front rest eq sp stop = let no = sp.type_is in absurd cc
 
@@ -160,7 +155,7 @@ none_behind p q j took stuck = none
         let x = sp.lines in
         let y = x.second in
         let whole : kinds took.used ++ kinds q.tokens ≡ x.prefix ++ (x.suffix ++ rest) = sym parts ∙ eq ∙ split front x.prefix x.suffix rest x.whole in
-        let free = Free-from_NextStops (infer_continues i) p.faulty (x.suffix ++ rest) (rest_over p.faulty p.scope new i r x.suffix rest y) in
+        let free = Free-from_NextStops (infer_continues i) p.faulty (x.suffix ++ rest) (infer_over p.faulty p.scope i r new x.suffix rest y) in
         let root = infer_alone p.scope j i (kinds took.used) x.prefix (kinds q.tokens) (x.suffix ++ rest) whole took.spelled x.first took.free free in
         let after : kinds q.tokens ≡ x.suffix ++ rest = append_cancel_left x.prefix (kinds q.tokens) (x.suffix ++ rest) (ap (λ (z : List Lexeme). z ++ kinds q.tokens) (sym root.0) ∙ whole) in
         no_item result result_continues result_opens p.scope p.faulty (kinds q.tokens) new y.prefix y.suffix rest r here (after ∙ split x.suffix y.prefix y.suffix rest y.whole) y.first y.second st

@@ -5,7 +5,7 @@ use Rattle.souper_graph.specs.Values.{PlainStatement, PlainInfer, Item}
 use Rattle.souper_graph.specs.declared.ast.operands.«Type».{«Type» as Ty}
 use Rattle.souper_graph.specs.Syntax.Tokens.{Lexeme, open_paren}
 use Rattle.souper_graph.specs.Syntax.TokenLaws.{AreTokensOf}
-use Rattle.souper_graph.specs.Syntax.Spelling.{infer, ItemType, attribute as attribute_form, root_attribute as root_attribute_form}
+use Rattle.souper_graph.specs.Syntax.Spelling.{infer, ItemType, attribute as attribute_form}
 use Rattle.souper_lexer.specs.TokenView.{IsCut}
 use Rattle.souper_errors.specs.declared.error.ParseError.{ParseError}
 use Rattle.souper_ir.specs.declared.parse.item.Next.{Next}
@@ -24,6 +24,7 @@ use Rattle.souper_ir.specs.Stopping.{RowStops, LineStops, StatementStops, Statem
 use Rattle.souper_ir.specs.Laws.Peeks.{peeked, answer}
 use Rattle.souper_ir.proofs.Nodes.Lists.{SoFar}
 use Rattle.souper_ir.proofs.Nodes.NextStatements.{next_stays}
+use Rattle.souper_ir.proofs.Items.Steps.{SeesInfer}
 use Rattle.souper_ir.proofs.Items.Texts.{parse_cause, located_kind}
 use Rattle.souper_ir.proofs.Nodes.Statements.{definition_read, unread_heading, unread_value}
 
@@ -125,30 +126,27 @@ last_stops line new e p q so h = if_refused (cause_of e) (λ bad live. inr (reco
 pub result_stops : (e : ParseError) (p q : Parsing) → IfRefused (cause_of e) (result_at p ≡ Err (at_end_of e)) × Fails e p q → Stops ResultStops e p
 result_stops e p q h = if_refused (cause_of e) (λ bad live. bad) h.0
 
-abbrev Sees : Bool → Parsing → Parsing → Type 0
-Sees b p q = IsRead (peek_at (is_word (codes "infer")) p) b p q
-
-same_seen : (b : Bool) (p q : Parsing) → Sees b p q → q ≡ p
+same_seen : (b : Bool) (p q : Parsing) → SeesInfer b p q → q ≡ p
 same_seen b p q h = (peeked (is_word (codes "infer")) p q b h.0).0
 
-here_seen : (b : Bool) (p q : Parsing) → Sees b p q → Sees b p p
-here_seen b p q h = subst (λ (x : Parsing). Sees b p x) (same_seen b p q h) h
+here_seen : (b : Bool) (p q : Parsing) → SeesInfer b p q → SeesInfer b p p
+here_seen b p q h = subst (λ (x : Parsing). SeesInfer b p x) (same_seen b p q h) h
 
 pub word_stops : (e : ParseError) (p q : Parsing) → IfRefused (cause_of e) (peek_at (is_word (codes "infer")) p ≡ Err (at_end_of e)) × Fails e p q → Stops EndingStops e p
 word_stops e p q h = if_refused (cause_of e) (λ bad live. inl bad) h.0
 
-replaced : (e : ParseError) (p q : Parsing) → Sees true p q → Stops ReplacedStops e p → Stops EndingStops e p
+replaced : (e : ParseError) (p q : Parsing) → SeesInfer true p q → Stops ReplacedStops e p → Stops EndingStops e p
 replaced e p q seen h = if_refused (cause_of e) (λ bad live. inr (inl (here_seen true p q seen, bad live))) h
 
-pub infer_stops : (e : ParseError) (p q : Parsing) → Sees true p q → Stops InferStops e q → Stops EndingStops e p
+pub infer_stops : (e : ParseError) (p q : Parsing) → SeesInfer true p q → Stops InferStops e q → Stops EndingStops e p
 infer_stops e p q seen h = replaced e p q seen (if_refused (cause_of e) (λ bad live. inl (bad live)) (subst (λ (x : Parsing). Stops InferStops e x) (same_seen true p q seen) h))
 
-pub middle_stops : (i : PlainInfer) (e : ParseError) (p q r : Parsing) → Sees true p q → Took infer infer_continues (λ s. s) i q r → Stops (EitherStops ResultStops) e r → Stops EndingStops e p
+pub middle_stops : (i : PlainInfer) (e : ParseError) (p q r : Parsing) → SeesInfer true p q → Took infer infer_continues (λ s. s) i q r → Stops (EitherStops ResultStops) e r → Stops EndingStops e p
 middle_stops i e p q r seen took h =
     let here = subst (λ (x : Parsing). Took infer infer_continues (λ s. s) i x r) (same_seen true p q seen) took in
     replaced e p q seen (if_refused (cause_of e) (λ bad live. inr (i, r, here, bad (ap (λ (x : Parsing). x.failed) here.state ∙ live))) h)
 
-pub cand_stops : (e : ParseError) (p q : Parsing) → Sees false p q → Stops CandStops e q → Stops EndingStops e p
+pub cand_stops : (e : ParseError) (p q : Parsing) → SeesInfer false p q → Stops CandStops e q → Stops EndingStops e p
 cand_stops e p q seen h =
     if_refused (cause_of e) (λ bad live. inr (inr (here_seen false p q seen, bad live))) (subst (λ (x : Parsing). Stops CandStops e x) (same_seen false p q seen) h)
 

@@ -14,7 +14,7 @@ use Rattle.souper_ir.specs.Grammar.{Free, NextStops, Starts, NoFront, LastGoesOn
 use Rattle.souper_ir.specs.Laws.Unique.{Alone, Free-from_NextStops}
 use Rattle.souper_ir.specs.NodeReadings.{starts_statement, is_word}
 use Rattle.souper_ir.specs.Laws.Peeks.{peeked, peeked_no}
-use Rattle.souper_ir.specs.Laws.Statements.{statement_first, statement_alone, statement_ends, starts_begins, infer_first, infer_alone, infer_ends, cand_alone, result_alone}
+use Rattle.souper_ir.specs.Laws.Statements.{begins_line, statement_first, statement_alone, statement_ends, starts_begins, infer_first, infer_alone, infer_ends, cand_alone, result_alone}
 use Rattle.souper_ir.specs.Laws.Series.{split, starts_ahead, starts_stop, free_stops, not_started, behind, Series, Further, along, further_starts, none_further, all_alone, stuck_stops, goes_on, ends_in}
 use Rattle.souper_ir.specs.Items.{Opens, Tail, tail_lines, TailOf, Parted, tail_continues, Entered, Stated, AllStated, NoStatement, NoMore, StatementsEnd}
 
@@ -115,10 +115,18 @@ module _ {Y : Type 0} (tail : Scope → Y → List Lexeme → Type 0) (continues
   stuck_tail new p q so none =
       ends_in statement_series (NoMore tail continues) new p q so.stated (inr (Free-from_NextStops (λ t. starts_statement t ≡ true) q.faulty (kinds q.tokens) so.quiet, none))
 
--- statements before an opening are alone
-statements_alone : (s : Scope) (vs ws : List PlainStatement) (a b c d : List Lexeme) → a ++ c ≡ b ++ d → statements s vs a → statements s ws b → Opens c → Opens d → (a ≡ b) × (vs ≡ ws)
-statements_alone s vs ws a b c d e m n o r =
-    all_alone statement_series s vs ws a b c d e m n (opens_quiet false c o) (opens_quiet false d r) (opens_stop false vs c o) (opens_stop false ws d r)
+  -- statements and their tail are alone
+  after_alone : Alone tail continues → (s : Scope) (vs ws : List PlainStatement) (y z : Y) (a b c d : List Lexeme) → a ++ c ≡ b ++ d → (statements s vs · tail (s ++ vs) y) a → (statements s ws · tail (s ++ ws) z) b
+      → Free (continues y) c → Free (continues z) d → (a ≡ b) × (vs ≡ ws) × (y ≡ z)
+  after_alone alone s vs ws y z a b c d e m n f g =
+      let whole : m.prefix ++ (m.suffix ++ c) ≡ n.prefix ++ (n.suffix ++ d) = sym (split a m.prefix m.suffix c m.whole) ∙ e ∙ split b n.prefix n.suffix d n.whole in
+      let o = opens_over m.suffix c (opens (s ++ vs) y m.suffix m.second) in
+      let r = opens_over n.suffix d (opens (s ++ ws) z n.suffix n.second) in
+      let stated = all_alone statement_series s vs ws m.prefix n.prefix (m.suffix ++ c) (n.suffix ++ d) whole m.first n.first (opens_quiet false (m.suffix ++ c) o) (opens_quiet false (n.suffix ++ d) r) (opens_stop false vs (m.suffix ++ c) o) (opens_stop false ws (n.suffix ++ d) r) in
+      let rest : m.suffix ++ c ≡ n.suffix ++ d = append_cancel_left n.prefix (m.suffix ++ c) (n.suffix ++ d) (ap (λ (x : List Lexeme). x ++ (m.suffix ++ c)) (sym stated.0) ∙ whole) in
+      let last : tail (s ++ vs) z n.suffix = subst (λ (x : List PlainStatement). tail (s ++ x) z n.suffix) (sym stated.1) n.second in
+      let ended = alone (s ++ vs) y z m.suffix n.suffix c d rest m.second last f g in
+      (m.whole ∙ ap (λ (x : List Lexeme). x ++ m.suffix) stated.0 ∙ ap (λ (x : List Lexeme). n.prefix ++ x) ended.0 ∙ sym n.whole, stated.1, ended.1)
 
 -- ---- last lines
 
@@ -129,27 +137,29 @@ infer_opens s i ts h = rw (h.whole, h.first) (refl, λ v. statement_ends v (iden
 pub result_opens : (s : Scope) (r : Operand) (ts : List Lexeme) → result s r ts → Opens ts
 result_opens s r ts h = rw (h.whole, h.first) (refl, λ v. statement_ends v (ident (codes "result")) refl)
 
-cand_opens : (s : Scope) (c : PlainCand) (ts : List Lexeme) → cand s c ts → Opens ts
-cand_opens s c ts h = rw (h.whole, h.first) (refl, λ v. statement_ends v (ident (codes "cand")) refl)
-
-lines_open : (s : Scope) (y : Tail) (ts : List Lexeme) → tail_lines s y ts → Opens ts
-lines_open s (new, inferred i) ts h = infer_opens s i ts h.1
-lines_open s (new, resulting r) ts h = result_opens s r ts h.1
-lines_open s (new, replaced i r) ts h = subst Opens (sym h.whole) (opens_over h.prefix h.suffix (infer_opens s i h.prefix h.first))
-lines_open s (new, candidate c) ts h = cand_opens s c ts h.1
-
 pub tail_opens : (k : ItemType) (s : Scope) (y : Tail) (ts : List Lexeme) → TailOf k s y ts → Opens ts
-tail_opens k s y ts h = lines_open s y ts h.lines
+tail_opens k s (new, inferred i) ts h = infer_opens s i ts h.lines.1
+tail_opens k s (new, resulting r) ts h = result_opens s r ts h.lines.1
+tail_opens k s (new, replaced i r) ts h = subst Opens (sym h.lines.whole) (opens_over h.lines.prefix h.lines.suffix (infer_opens s i h.lines.prefix h.lines.first))
+tail_opens k s (new, candidate c) ts h = rw (h.lines.1.whole, h.lines.1.first) (refl, λ v. statement_ends v (ident (codes "cand")) refl)
+
+pub starts_as : (P Q : Lexeme → Bool) (ts : List Lexeme) → ((t : Lexeme) → P t ≡ true → Q t ≡ true) → Starts P ts → Starts Q ts
+starts_as P Q [] f h = absurd h
+starts_as P Q (t ∷ ts) f h = f t h
+
+-- statements, and what begins a line, begin a line
+pub begun_by : (s : Scope) (vs : List PlainStatement) (front back : List Lexeme) → statements s vs front → Starts begins_line back → Starts begins_line (front ++ back)
+begun_by s [] front back m h = subst (λ (x : List Lexeme). Starts begins_line (x ++ back)) (sym m) h
+begun_by s (v ∷ vs) front back m h =
+    subst (λ (x : List Lexeme). Starts begins_line (x ++ back)) (sym m.whole)
+    (starts_ahead begins_line (m.prefix ++ m.suffix) back (starts_ahead begins_line m.prefix m.suffix (starts_as starts_statement begins_line m.prefix starts_begins (statement_first s v m.prefix m.first))))
 
 -- neither a statement nor the result line continues an infer line
-pub infer_over : (faulty : Bool) (s t : Scope) (i : PlainInfer) (r : Operand) (new : List PlainStatement) (middle last d : List Lexeme) → statements s new middle → result t r last → NextStops (infer_continues i) faulty ((middle ++ last) ++ d)
-infer_over faulty s t i r [] middle last d m h = rw (m, h.whole, h.first) (infer_ends i (ident (codes "result")) refl)
-infer_over faulty s t i r (v ∷ new) middle last d m h =
-    subst (λ (x : List Lexeme). NextStops (infer_continues i) faulty ((x ++ last) ++ d)) (sym m.whole) (by_start m.prefix m.suffix (statement_first s v m.prefix m.first))
-  where
-    by_start : (a b : List Lexeme) → Starts starts_statement a → NextStops (infer_continues i) faulty (((a ++ b) ++ last) ++ d)
-    by_start [] b st = absurd st
-    by_start (t ∷ a) b st = infer_ends i t (starts_begins t st)
+pub infer_over : (faulty : Bool) (s : Scope) (i : PlainInfer) (r : Operand) (new : List PlainStatement) (ts d : List Lexeme) → (statements s new · result (s ++ new) r) ts → NextStops (infer_continues i) faulty (ts ++ d)
+infer_over faulty s i r new ts d h =
+    let ended : Starts begins_line h.suffix = rw (h.second.whole, h.second.first) refl in
+    starts_stop (infer_continues i) begins_line faulty (ts ++ d) (infer_ends i)
+    (starts_ahead begins_line ts d (subst (λ (x : List Lexeme). Starts begins_line x) (sym h.whole) (begun_by s new h.prefix h.suffix h.first ended)))
 
 -- an infer line and a cand line do not begin alike
 pub cand_is_no_infer : (s : Scope) (c : PlainCand) (a b d : List Lexeme) → cand s c a → Starts (is_word (codes "infer")) b → b ≡ a ++ d → ⊥
@@ -165,51 +175,34 @@ replaced_begins s new i r ts h =
 replaced_alone : (s : Scope) (new more : List PlainStatement) (i j : PlainInfer) (r q : Operand) (a b c d : List Lexeme) → a ++ c ≡ b ++ d → tail_lines s (new, replaced i r) a → tail_lines s (more, replaced j q) b
     → Free (result_continues r) c → Free (result_continues q) d → (a ≡ b) × (◌≡◌ {A = Tail} (new, replaced i r) (more, replaced j q))
 replaced_alone s new more i j r q a b c d e m n f g =
-    let x = m.second in
-    let y = n.second in
     let whole : m.prefix ++ (m.suffix ++ c) ≡ n.prefix ++ (n.suffix ++ d) = sym (split a m.prefix m.suffix c m.whole) ∙ e ∙ split b n.prefix n.suffix d n.whole in
-    let over_x = infer_over false s (s ++ new) i r new x.prefix x.suffix c x.first x.second in
-    let over_y = infer_over false s (s ++ more) j q more y.prefix y.suffix d y.first y.second in
-    let free_i = Free-from_NextStops (infer_continues i) false (m.suffix ++ c) (subst (λ (z : List Lexeme). NextStops (infer_continues i) false (z ++ c)) (sym x.whole) over_x) in
-    let free_j = Free-from_NextStops (infer_continues j) false (n.suffix ++ d) (subst (λ (z : List Lexeme). NextStops (infer_continues j) false (z ++ d)) (sym y.whole) over_y) in
+    let free_i = Free-from_NextStops (infer_continues i) false (m.suffix ++ c) (infer_over false s i r new m.suffix c m.second) in
+    let free_j = Free-from_NextStops (infer_continues j) false (n.suffix ++ d) (infer_over false s j q more n.suffix d n.second) in
     let root = infer_alone s i j m.prefix n.prefix (m.suffix ++ c) (n.suffix ++ d) whole m.first n.first free_i free_j in
-    let behind : m.suffix ++ c ≡ n.suffix ++ d = append_cancel_left n.prefix (m.suffix ++ c) (n.suffix ++ d) (ap (λ (z : List Lexeme). z ++ (m.suffix ++ c)) (sym root.0) ∙ whole) in
-    let further : x.prefix ++ (x.suffix ++ c) ≡ y.prefix ++ (y.suffix ++ d) = sym (split m.suffix x.prefix x.suffix c x.whole) ∙ behind ∙ split n.suffix y.prefix y.suffix d y.whole in
-    let stated = statements_alone s new more x.prefix y.prefix (x.suffix ++ c) (y.suffix ++ d) further x.first y.first (opens_over x.suffix c (result_opens (s ++ new) r x.suffix x.second)) (opens_over y.suffix d (result_opens (s ++ more) q y.suffix y.second)) in
-    let last : x.suffix ++ c ≡ y.suffix ++ d = append_cancel_left y.prefix (x.suffix ++ c) (y.suffix ++ d) (ap (λ (z : List Lexeme). z ++ (x.suffix ++ c)) (sym stated.0) ∙ further) in
-    let y_result : result (s ++ new) q y.suffix = subst (λ (z : List PlainStatement). result (s ++ z) q y.suffix) (sym stated.1) y.second in
-    let ended = result_alone (s ++ new) r q x.suffix y.suffix c d last x.second y_result f g in (
-      m.whole ∙ ap (λ (z : List Lexeme). z ++ m.suffix) root.0 ∙ ap (λ (z : List Lexeme). n.prefix ++ z) (x.whole ∙ ap (λ (z : List Lexeme). z ++ x.suffix) stated.0 ∙ ap (λ (z : List Lexeme). y.prefix ++ z) ended.0 ∙ sym y.whole) ∙ sym n.whole,
-      let first : ◌≡◌ {A = Tail} (new, replaced i r) (more, replaced i r) = ap (λ (z : List PlainStatement). (z, replaced i r)) stated.1 in
-          let second : ◌≡◌ {A = Tail} (more, replaced i r) (more, replaced j r) = ap (λ (z : PlainInfer). (more, replaced z r)) root.1 in
-          let third : ◌≡◌ {A = Tail} (more, replaced j r) (more, replaced j q) = ap (λ (z : Operand). (more, replaced j z)) ended.1 in
-          first ∙ second ∙ third,
+    let after : m.suffix ++ c ≡ n.suffix ++ d = append_cancel_left n.prefix (m.suffix ++ c) (n.suffix ++ d) (ap (λ (z : List Lexeme). z ++ (m.suffix ++ c)) (sym root.0) ∙ whole) in
+    let rest = after_alone result result_continues result_opens result_alone s new more r q m.suffix n.suffix c d after m.second n.second f g in (
+      m.whole ∙ ap (λ (z : List Lexeme). z ++ m.suffix) root.0 ∙ ap (λ (z : List Lexeme). n.prefix ++ z) rest.0 ∙ sym n.whole,
+      let last : ◌≡◌ {A = Tail} (new, replaced i r) (more, replaced j q) = cc (root.1, rest.1, rest.2) in last,
     )
 
 -- with no further statements the last line alone counts
 same_tail : {A : Type 0} (end : A → Ending) (new more : List PlainStatement) (x y : A) → new ≡ [] → more ≡ [] → x ≡ y → ◌≡◌ {A = Tail} (new, end x) (more, end y)
-same_tail end new more x y none also same =
-    let first : ◌≡◌ {A = Tail} (new, end x) (more, end x) = ap (λ (z : List PlainStatement). (z, end x)) (none ∙ sym also) in
-    let second : ◌≡◌ {A = Tail} (more, end x) (more, end y) = ap (λ (z : _). (more, end z)) same in
-    first ∙ second
-
-lines_alone : (s : Scope) (y z : Tail) (a b c d : List Lexeme) → a ++ c ≡ b ++ d → ending_type y.1 ≡ ending_type z.1 → tail_lines s y a → tail_lines s z b → Free (tail_continues y) c → Free (tail_continues z) d → (a ≡ b) × (y ≡ z)
-lines_alone s (new, inferred i) (more, inferred j) a b c d e t m n f g =
-    let same = infer_alone s i j a b c d e m.1 n.1 f g in
-    (same.0, same_tail inferred new more i j m.0 n.0 same.1)
-lines_alone s (new, resulting r) (more, resulting q) a b c d e t m n f g =
-    let same = result_alone s r q a b c d e m.1 n.1 f g in
-    (same.0, same_tail resulting new more r q m.0 n.0 same.1)
-lines_alone s (new, candidate o) (more, candidate p) a b c d e t m n f g =
-    let same = cand_alone s o p a b c d e m.1 n.1 f g in
-    (same.0, same_tail candidate new more o p m.0 n.0 same.1)
-lines_alone s (new, replaced i r) (more, replaced j q) a b c d e t m n f g = replaced_alone s new more i j r q a b c d e m n f g
-lines_alone s (new, replaced i r) (more, candidate o) a b c d e t m n f g = absurd (cand_is_no_infer s o b (a ++ c) d n.1 (starts_ahead (is_word (codes "infer")) a c (replaced_begins s new i r a m)) e)
-lines_alone s (new, candidate o) (more, replaced j q) a b c d e t m n f g = absurd (cand_is_no_infer s o a (b ++ d) c m.1 (starts_ahead (is_word (codes "infer")) b d (replaced_begins s more j q b n)) (sym e))
-lines_alone s _ _ a b c d e t m n f g = absurd cc
+same_tail end new more x y none also same = cc
 
 pub tail_alone : (k : ItemType) → Alone (TailOf k) tail_continues
-tail_alone k s y z a b c d e m n f g = lines_alone s y z a b c d e (m.type_is ∙ sym n.type_is) m.lines n.lines f g
+tail_alone k s (new, inferred i) (more, inferred j) a b c d e m n f g =
+    let same = infer_alone s i j a b c d e m.lines.1 n.lines.1 f g in
+    (same.0, same_tail inferred new more i j m.lines.0 n.lines.0 same.1)
+tail_alone k s (new, resulting r) (more, resulting q) a b c d e m n f g =
+    let same = result_alone s r q a b c d e m.lines.1 n.lines.1 f g in
+    (same.0, same_tail resulting new more r q m.lines.0 n.lines.0 same.1)
+tail_alone k s (new, candidate o) (more, candidate p) a b c d e m n f g =
+    let same = cand_alone s o p a b c d e m.lines.1 n.lines.1 f g in
+    (same.0, same_tail candidate new more o p m.lines.0 n.lines.0 same.1)
+tail_alone k s (new, replaced i r) (more, replaced j q) a b c d e m n f g = replaced_alone s new more i j r q a b c d e m.lines n.lines f g
+tail_alone k s (new, replaced i r) (more, candidate o) a b c d e m n f g = absurd (cand_is_no_infer s o b (a ++ c) d n.lines.1 (starts_ahead (is_word (codes "infer")) a c (replaced_begins s new i r a m.lines)) e)
+tail_alone k s (new, candidate o) (more, replaced j q) a b c d e m n f g = absurd (cand_is_no_infer s o a (b ++ d) c m.lines.1 (starts_ahead (is_word (codes "infer")) b d (replaced_begins s more j q b n.lines)) (sym e))
+tail_alone k s _ _ a b c d e m n f g = let t = m.type_is ∙ sym n.type_is in absurd cc
 
 -- ---- items
 
@@ -253,19 +246,10 @@ same_item v w e f = ap (λ (x : List PlainStatement). record { statements = x; e
 
 parted_alone : (k : ItemType) (s : Scope) (v w : Item) (a b c d : List Lexeme) → a ++ c ≡ b ++ d → Parted k s v a → Parted k s w b → Free (item_continues v) c → Free (item_continues w) d → (a ≡ b) × (v ≡ w)
 parted_alone k s v w a b c d e m n f g =
-    let x = m.spelled in
-    let y = n.spelled in
-    let whole : x.prefix ++ (x.suffix ++ c) ≡ y.prefix ++ (y.suffix ++ d) = sym (split a x.prefix x.suffix c x.whole) ∙ e ∙ split b y.prefix y.suffix d y.whole in
-    let stated = statements_alone s m.first n.first x.prefix y.prefix (x.suffix ++ c) (y.suffix ++ d) whole x.first y.first
-    (opens_over x.suffix c (tail_opens k (s ++ m.first) (m.last, v.ending) x.suffix x.second)) (opens_over y.suffix d (tail_opens k (s ++ n.first) (n.last, w.ending) y.suffix y.second)) in
-    let rest : x.suffix ++ c ≡ y.suffix ++ d = append_cancel_left y.prefix (x.suffix ++ c) (y.suffix ++ d) (ap (λ (z : List Lexeme). z ++ (x.suffix ++ c)) (sym stated.0) ∙ whole) in
-    let y_tail : TailOf k (s ++ m.first) (n.last, w.ending) y.suffix = subst (λ (z : List PlainStatement). TailOf k (s ++ z) (n.last, w.ending) y.suffix) (sym stated.1) y.second in
-    let ended = tail_alone k (s ++ m.first) (m.last, v.ending) (n.last, w.ending) x.suffix y.suffix c d rest x.second y_tail f g in
-    let last : m.last ≡ n.last = ap (λ (z : Tail). z.0) ended.1 in
-    let all : v.statements ≡ w.statements = m.statements_are ∙ ap (λ (z : List PlainStatement). s ++ (z ++ m.last)) stated.1 ∙ ap (λ (z : List PlainStatement). s ++ (n.first ++ z)) last ∙ sym n.statements_are in (
-      x.whole ∙ ap (λ (z : List Lexeme). z ++ x.suffix) stated.0 ∙ ap (λ (z : List Lexeme). y.prefix ++ z) ended.0 ∙ sym y.whole,
-      same_item v w all (ap (λ (z : Tail). z.1) ended.1),
-    )
+    let h = after_alone (TailOf k) tail_continues (tail_opens k) (tail_alone k) s m.first n.first (m.last, v.ending) (n.last, w.ending) a b c d e m.spelled n.spelled f g in
+    let last : m.last ≡ n.last = ap (λ (z : Tail). z.0) h.2 in
+    let all : v.statements ≡ w.statements = m.statements_are ∙ ap (λ (z : List PlainStatement). s ++ (z ++ m.last)) h.1 ∙ ap (λ (z : List PlainStatement). s ++ (n.first ++ z)) last ∙ sym n.statements_are in
+    (h.0, same_item v w all (ap (λ (z : Tail). z.1) h.2))
 
 pub item_alone : (k : ItemType) → Alone (item_after k) item_continues
 item_alone k s v w a b c d e m n f g = parted_alone k s v w a b c d e (parted_item k s v a m) (parted_item k s w b n) f g

@@ -8,7 +8,7 @@ use Rattle.souper_graph.specs.Syntax.Spelling.{kinds, Scope, Form, Joined}
 use Rattle.souper_ir.specs.Parsing.{Parsing}
 use Rattle.souper_ir.specs.Reading.{cause_of, IfRefused, if_refused, IsRead, Fails, fails_later}
 use Rattle.souper_ir.specs.Grammar.{Free, NextStops, Starts, Took, NoneStarted, Refusal, LastGoesOn, TookAll, StuckAt, peek_at}
-use Rattle.souper_ir.specs.Laws.Unique.{Alone, Free-weaker, NextStops-weaker, Free-from_NextStops, Free-front}
+use Rattle.souper_ir.specs.Laws.Unique.{Alone, never, Free-weaker, NextStops-weaker, Free-from_NextStops, Free-front}
 use Rattle.souper_ir.specs.Laws.Peeks.{peeked, peeked_yes, unread}
 use Rattle.souper_ir.specs.Laws.Steps.{kinds-append}
 
@@ -75,10 +75,6 @@ pub last_of_push : {V : Type 0} (continues : V → Lexeme → Type 0) (vs : List
 last_of_push continues [] v t h = h
 last_of_push continues (w ∷ []) v t h = h
 last_of_push continues (w ∷ (x ∷ xs)) v t h = last_of_push continues (x ∷ xs) v t h
-
-pub no_last : {V : Type 0} (continues : V → Lexeme → Type 0) (ts : List Lexeme) → Free (λ t. LastGoesOn continues [] t) ts
-no_last continues [] = tt
-no_last continues (t ∷ ts) = λ h. h
 
 module _ {V : Type 0} (x : Series V) where
   abbrev pub Last : List V → Lexeme → Type 0
@@ -152,8 +148,7 @@ module _ {V : Type 0} (x : Series V) where
       ]
 
   pub stuck_stops : (s : Scope) (faulty : Bool) (ts : List Lexeme) → NoMember s faulty ts → NextStops (λ t. x.starts t ≡ true) faulty ts → ⊥
-  stuck_stops s faulty [] (inl k) h = let no : true ≡ false = sym k.1 ∙ h in absurd cc
-  stuck_stops s faulty (t ∷ ts) (inl k) h = let no : t ∷ ts ≡ [] = k.0 in absurd cc
+  stuck_stops s faulty ts (inl k) h = let no : true ≡ false = sym k.1 ∙ subst (λ (y : List Lexeme). NextStops (λ t. x.starts t ≡ true) faulty y) k.0 h in absurd cc
   stuck_stops s faulty ts (inr k) h = not_started x.starts faulty ts h k.0
 
   -- no list is spelled if members end stuck
@@ -172,7 +167,7 @@ module _ {V : Type 0} (x : Series V) where
   -- ---- the loop
 
   unfoldable pub begins : (p : Parsing) → p.scope ≡ x.leaves p.scope [] → Loop [] p p
-  begins p e = record { used = []; parts = refl; spelled = (x.none p.scope []).1 refl; free = no_last x.continues (kinds p.tokens); state = ap (λ (y : Scope). record p { scope = y }) e }
+  begins p e = record { used = []; parts = refl; spelled = (x.none p.scope []).1 refl; free = Free-weaker (λ t. ⊥) (λ t. Last [] t) (kinds p.tokens) (λ t h. h) (never (kinds p.tokens)); state = ap (λ (y : Scope). record p { scope = y }) e }
 
   pub push : (s : Scope) (vs : List V) (v : V) (a b : List Lexeme) → x.all s vs a → Free (λ t. Last vs t) b → x.one (x.leaves s vs) v b → x.all s (vs ++ v ∷ []) (a ++ b)
   push s [] v a b m f sp =

@@ -3,10 +3,11 @@ use Rattle.souper_ir.proofs.Exits.{exit}
 use Rattle.std.proofs.lemmas.List.{append-nil, length-append}
 use Rattle.souper_errors.specs.Errors.{error_of}
 use Rattle.souper_ir.specs.Reading.{cause_of}
+use Rattle.souper_ir.specs.Starts.{starts_kept}
 use Rattle.souper_ir.specs.Laws.Series.{begins, goes_on, shorter}
 use Rattle.souper_ir.proofs.Items.Lists.{item_series, all_taken, look_refused, item_refused, nothing_taken, nothing_seen, still_sound, still_empty, read_behind, read_well, takes_one, taken_first}
 use Rattle.souper_ir.proofs.Items.Stopping.{items_look, item_stops}
-use Rattle.souper_ir.proofs.Items.Starts.{begun, keeps_none, keeps_both, keeps_asked}
+use Rattle.souper_ir.proofs.Items.Starts.{begun, after_none, keeps_both, keeps_asked}
 use Rattle.souper_ir.proofs.parse.item.items.Goals as goal
 
 pub returns-in_err-start : goal.returns-in_err-start
@@ -99,5 +100,5 @@ loop-start-init g c = (
   λ e. refl,
   [],
   refl,
-  keeps_none c.args.kept.now,
+  after_none (starts_kept c.args.kept.now),
 )
