@@ -64,9 +64,8 @@ none_at_end (x ∷ s) n = none_at_end s n
 
 named_as_before : (s : Scope) (x : PlainStatement) (i : ℕ) (n : List ℕ) → defines_name (Some x) n ≡ false → is_named (s ++ x ∷ []) i n ≡ is_named s i n
 named_as_before [] x zero n h = h
-named_as_before [] x (suc i) n h = refl
-named_as_before (y ∷ s) x zero n h = refl
 named_as_before (y ∷ s) x (suc i) n h = named_as_before s x i n h
+named_as_before _ x _ n h = refl
 
 in_scope_as_before : (s : Scope) (x : PlainStatement) (o : Option NameEntry) (n : List ℕ) → defines_name (Some x) n ≡ false → entry_in_scope (s ++ x ∷ []) o n ≡ entry_in_scope s o n
 in_scope_as_before s x None n h = refl

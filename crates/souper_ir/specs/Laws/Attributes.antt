@@ -86,10 +86,9 @@ high_in _ = pos 0
 
 -- what comes after the token of the kind
 abbrev rest_of : AttributeKind → PlainAttribute → Form
-rest_of (plain_kind a) x = nothing
-rest_of (bits_kind w) x = nothing
 rest_of sign_bits_kind x = token equals · one int (count_of (2 ^ 8)) (sign_bits_in x)
 rest_of range_kind x = token equals · token open_bracket · one int number_of (low_in x) · token comma · one int number_of (high_in x) · token close_paren
+rest_of _ x = nothing
 
 attribute_by_rule : (k : AttributeKind) → Rule (OfKind k) (λ s. rest_of k) Never (attribute_by k)
 attribute_by_rule (plain_kind a) = done a refl (λ x i. i) (λ s ts h. h) (λ s. refl) (λ t h. h)
@@ -215,9 +214,8 @@ root_attribute_first s a ts h = let k = root_apart a ts h in rw (k.whole, k.firs
 
 -- a list whose members nothing continues is continued by one more
 pub last_ends : {V : Type 0} (vs : List V) (t : Lexeme) → LastGoesOn (λ v t. ⊥) vs t → ⊥
-last_ends [] t h = h
-last_ends (v ∷ []) t h = h
 last_ends (v ∷ (w ∷ vs)) t h = last_ends (w ∷ vs) t h
+last_ends _ t h = h
 
 pub goes_on_by_paren : {V : Type 0} (vs : List V) (t : Lexeme) → ListGoesOn (λ v t. ⊥) (is_mark open_paren) vs t → t ≡ open_paren
 goes_on_by_paren vs t (inl h) = is_mark_means open_paren t h

@@ -12,18 +12,16 @@ use Rattle.souper_ir.specs.Laws.Steps.{TakesTokens, At, bind_ok, up_ok}
 -- ---- a token is taken
 
 take_some : (failed : Option Cause) (cut : Bool) (ts : List (ℕ × Lexeme)) (t : Lexeme) (rest : List (ℕ × Lexeme)) → take_in failed cut ts ≡ Ok (t, rest) → (o : ℕ) × (ts ≡ (o, t) ∷ rest)
-take_some (Some c) cut ts t rest e = absurd cc
-take_some None cut [] t rest e = absurd cc
 take_some None cut (u ∷ ts) t rest e =
     let same : ◌≡◌ {A = Lexeme × List (ℕ × Lexeme)} (u.1, ts) (t, rest) = ok_is e in
     (u.0, ap (λ (x : Lexeme × List (ℕ × Lexeme)). (u.0, x.0) ∷ x.1) same)
+take_some _ cut _ t rest e = absurd cc
 
 take_is : (failed : Option Cause) (cut : Bool) (ts : List (ℕ × Lexeme)) (t : Lexeme) (rest : List Lexeme) → failed ≡ None → kinds ts ≡ t ∷ rest → (more : List (ℕ × Lexeme)) × (take_in failed cut ts ≡ Ok (t, more)) × (kinds more ≡ rest)
-take_is (Some c) cut ts t rest live e = absurd cc
-take_is None cut [] t rest live e = absurd cc
 take_is None cut (u ∷ ts) t rest live e =
     let same : u.1 ≡ t = cc in
     (ts, ap (λ (x : Lexeme). Ok (x, ts)) same, cc)
+take_is _ cut _ t rest live e = absurd cc
 
 -- a token with a meaning is taken
 pub accepted : {A : Type 0} (meaning : Lexeme → Option A) (p q : Parsing) (a : A) → accept meaning p ≡ Ok (a, q) → (t : Lexeme) × (meaning t ≡ Some a) × TakesTokens p q (t ∷ [])

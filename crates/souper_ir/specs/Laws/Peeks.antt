@@ -25,14 +25,13 @@ answer starts p seen =
 peeked_in : (starts : Lexeme → Bool) (p q : Parsing) (b : Bool) (failed : Option Cause) (faulty cut : Bool) (ts : List (ℕ × Lexeme))
     → answer starts p (look_in failed faulty cut ts) ≡ Ok (b, q)
     → (q ≡ p) × (failed ≡ None) × Answers starts b faulty ts
-peeked_in starts p q b (Some c) faulty cut ts e = absurd cc
 peeked_in starts p q b None faulty cut (t ∷ ts) e =
     let same : ◌≡◌ {A = Bool × Parsing} (starts t.1, p) (b, q) = ok_is e in
     (ap (λ (x : Bool × Parsing). x.1) (sym same), refl, ap (λ (x : Bool × Parsing). x.0) same)
-peeked_in starts p q b None true cut [] e = absurd cc
 peeked_in starts p q b None false cut [] e =
     let same : ◌≡◌ {A = Bool × Parsing} (false, p) (b, q) = ok_is e in
     (ap (λ (x : Bool × Parsing). x.1) (sym same), refl, (ap (λ (x : Bool × Parsing). x.0) (sym same), refl))
+peeked_in starts p q b _ _ cut _ e = absurd cc
 
 pub peeked : (starts : Lexeme → Bool) (p q : Parsing) (b : Bool) → peek_at starts p ≡ Ok (b, q) → (q ≡ p) × (p.failed ≡ None) × Answers starts b p.faulty p.tokens
 unfolding peek_at look_at
@@ -59,10 +58,9 @@ peeked_no starts faulty (t ∷ ts) h = λ y. let e : true ≡ false = sym y ∙ 
 unread_in : (starts : Lexeme → Bool) (p : Parsing) (failed : Option Cause) (faulty cut ended : Bool) (ts : List (ℕ × Lexeme))
     → answer starts p (look_in failed faulty cut ts) ≡ Err ended
     → failed ≡ None → (kinds ts ≡ []) × (faulty ≡ true)
-unread_in starts p (Some c) faulty cut ended ts e live = absurd cc
-unread_in starts p None faulty cut ended (t ∷ ts) e live = absurd cc
 unread_in starts p None true cut ended [] e live = (refl, refl)
 unread_in starts p None false cut ended [] e live = absurd cc
+unread_in starts p _ _ cut ended _ e live = absurd cc
 
 -- a peek is refused at a fault alone
 pub unread : (starts : Lexeme → Bool) (p : Parsing) (ended : Bool) → peek_at starts p ≡ Err ended → p.failed ≡ None → (kinds p.tokens ≡ []) × (p.faulty ≡ true)
@@ -71,9 +69,8 @@ unread starts p ended e live = unread_in starts p p.failed p.faulty p.cut ended 
 
 -- at a fault nothing is spelled
 fault_after : (goes_on : Lexeme → Type 0) (faulty : Bool) (front rest : List Lexeme) → [] ≡ front ++ rest → faulty ≡ true → NextStops goes_on faulty rest → ⊥
-fault_after goes_on faulty (t ∷ front) rest e f h = absurd cc
-fault_after goes_on faulty [] (t ∷ rest) e f h = absurd cc
 fault_after goes_on faulty [] [] e f h = absurd cc
+fault_after goes_on faulty _ _ e f h = absurd cc
 
 pub none_at_fault : {V : Type 0} (spells : Scope → V → List Lexeme → Type 0) (continues : V → Lexeme → Type 0) (p : Parsing) → (kinds p.tokens ≡ []) × (p.faulty ≡ true) → NoFront spells continues p
 none_at_fault spells continues p h v front rest e s st = fault_after (continues v) p.faulty front rest (sym h.0 ∙ e) h.1 st

@@ -208,9 +208,8 @@ module _ {A V : Type 0} (Has : V → A → Type 0) (G : FormOf V) (c : A → Lex
 
 -- nothing continues the first part
 pub quiet : {A V : Type 0} (Has : V → A → Type 0) (G : FormOf V) (d : V → Lexeme → Type 0) → Over Has G Never d d
-quiet Has G d faulty s v a (t ∷ b) rest i h st = λ x. x
-quiet Has G d faulty s v a [] (t ∷ rest) i h st = λ x. x
 quiet Has G d faulty s v a [] [] i h st = st
+quiet Has G d faulty s v a _ _ i h st = λ x. x
 
 -- the second part ends the whole
 pub second_ends : {A V : Type 0} (Has : V → A → Type 0) (G : FormOf V) (c : A → Lexeme → Type 0) (d : V → Lexeme → Type 0) → Ends Has G c d d
