@@ -72,10 +72,6 @@ OfKind (bits_kind w) x = (bits : List (Option Bool)) × (x ≡ known_bits_attrib
 OfKind sign_bits_kind x = (n : ℕ) × (x ≡ sign_bits n)
 OfKind range_kind x = (low : ℤ) × (high : ℤ) × (x ≡ range low high)
 
-abbrev sign_bits_in : PlainAttribute → ℕ
-sign_bits_in (sign_bits n) = n
-sign_bits_in _ = 0
-
 abbrev low_in : PlainAttribute → ℤ
 low_in (range low high) = low
 low_in _ = pos 0
@@ -86,7 +82,7 @@ high_in _ = pos 0
 
 -- what comes after the token of the kind
 abbrev rest_of : AttributeKind → PlainAttribute → Form
-rest_of sign_bits_kind x = token equals · one int (count_of (2 ^ 8)) (sign_bits_in x)
+rest_of sign_bits_kind (sign_bits n) = token equals · one int (count_of (2 ^ 8)) n
 rest_of range_kind x = token equals · token open_bracket · one int number_of (low_in x) · token comma · one int number_of (high_in x) · token close_paren
 rest_of _ x = nothing
 
@@ -94,7 +90,8 @@ attribute_by_rule : (k : AttributeKind) → Rule (OfKind k) (λ s. rest_of k) Ne
 attribute_by_rule (plain_kind a) = done a refl (λ x i. i) (λ s ts h. h) (λ s. refl) (λ t h. h)
 attribute_by_rule (bits_kind w) =
     given (known_bits_of w) (λ x i. (i.0, i.2)) (λ bits e. done (known_bits_attribute bits) (bits, refl, e) (λ x i. i.1 ∙ ap known_bits_attribute (some_is (sym i.2 ∙ e))) (λ s ts h. h) (λ s. refl) (λ t h. h))
-attribute_by_rule sign_bits_kind = after (mark equals refl) (last sign_bits (λ n i. (n, refl)) (λ x i. (i.0, tt, i.1)) (int_read (count_of (2 ^ 8))))
+attribute_by_rule sign_bits_kind = reread _ (λ p. regrouped (accept (as_mark equals) p) (λ e. accept (int_by (count_of (2 ^ 8))) e.1) (λ n. Ok (sign_bits n.0, n.1)))
+    (last sign_bits (λ n i. (n, refl)) (λ x i. (i.0, tt, i.1)) (after (mark equals refl) (int_read (count_of (2 ^ 8)))))
 attribute_by_rule range_kind =
     after (mark equals refl) (after (mark open_bracket refl) (
     first low_in (int_read number_of) (λ low. after (mark comma refl) (

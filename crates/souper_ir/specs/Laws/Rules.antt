@@ -285,10 +285,7 @@ module _ {A : Type 0} {F : FormOf A} (f : Bool → ReadingOf (Option A)) (starts
       let k = m.sound p q o live e in
       record { used = k.used; taken = k.taken; is = tt; formed = k.formed; free = k.free }
 
-  abbrev reading : ReadingOf (Option A)
-  reading p = peek_at starts p >>= λ b. f b.0 b.1
-
-  choose : (p : Parsing) (o : Option A) (front rest : List Lexeme) → At p (front ++ rest) → optional (F p.scope) o front → NextStops (d o) p.faulty rest → ReadsValue reading o p rest
+  choose : (p : Parsing) (o : Option A) (front rest : List Lexeme) → At p (front ++ rest) → optional (F p.scope) o front → NextStops (d o) p.faulty rest → ReadsValue (λ p. peek_at starts p >>= λ b. f b.0 b.1) o p rest
   choose p None front rest at h st =
       let here : At p rest = subst (λ (x : List Lexeme). At p (x ++ rest)) h at in
       record { next = p; is_read = rw (sees_none starts p rest here (NextStops-weaker (d None) (λ t. starts t ≡ true) p.faulty rest stops st)) (without p); ahead = here; state = refl }
