@@ -4,7 +4,7 @@ use Rattle.std.specs.Prelude.{codes}
 use Rattle.souper_graph.specs.declared.ast.operands.«Type».{«Type» as Ty}
 use Rattle.souper_graph.specs.declared.ast.statements.Pc.{Pc}
 use Rattle.souper_graph.specs.declared.ast.statements.BlockPc.{BlockPc}
-use Rattle.souper_graph.specs.Values.{PlainAttribute, PlainAssignment, PlainStatement, assigned, condition, block_condition}
+use Rattle.souper_graph.specs.Values.{PlainAssignment, PlainStatement, assigned, condition, block_condition}
 use Rattle.souper_errors.specs.declared.error.ParseError.{ParseError}
 use Rattle.souper_errors.specs.Errors.{at_end_of}
 use Rattle.souper_ir.specs.Parsing.{Parsing}
