@@ -4,7 +4,7 @@ use Rattle.std.specs.Prelude.{IsSomeAnd}
 use Rattle.souper_errors.specs.declared.error.ParseError.{ParseError}
 use Rattle.souper_errors.specs.Places.{IsDirectRefusalText}
 use Rattle.souper_errors.specs.Errors.{at_end_of, shown_error}
-use Rattle.souper_ir.specs.Parsing.{Cause, refused, no_memory, Parsing}
+use Rattle.souper_ir.specs.Parsing.{Cause, refused, Parsing}
 use Rattle.souper_ir.specs.Reading.{cause_of, Fails, IfRefused}
 
 pub refused_fails : (e : ParseError) (p q : Parsing) (o : ℕ) → cause_of e ≡ Some (refused o) → IsSomeAnd (shown_error e) (IsDirectRefusalText o)
@@ -34,5 +34,4 @@ fails_first e p q r live l h = record {
 
 pub refused_for : {P : Type 0} (f : Option Cause) → P → IfRefused f P
 refused_for (Some (refused o)) h = h
-refused_for (Some no_memory) h = tt
-refused_for None h = tt
+refused_for _ h = tt

@@ -40,9 +40,8 @@ one_of : Option Lexeme → Bool
 one_of t = any_of (starts_next (is_word (codes "pc")) t) (starts_next (is_word (codes "blockpc")) t) (starts_next is_name t)
 
 either : (a b : Bool) → (if a then true else b) ≡ any_of a b false
-either true b = refl
 either false true = refl
-either false false = refl
+either _ _ = refl
 
 starts_are : (t : Option Lexeme) → starts_next starts_statement t ≡ one_of t
 unfolding one_of

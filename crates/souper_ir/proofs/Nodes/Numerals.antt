@@ -85,30 +85,17 @@ no_width (c ∷ ds) h = sym (none_if (((c == 105) && is_numeral ds) && (nat_lt 0
 
 -- after the `i`, if the word begins with it
 module _ (w : List ℕ) (r : Option (Bor (List ℕ))) (cases : MatchOption r (FindsCharPrefix 105 w None) (λ x. (n : ℕ) × FindsCharPrefix 105 w (Some n) × (x.now ≡ drop n w) × (length x.now + n ≡ length w))) where
-  begins_or_not : (o : Option (Bor (List ℕ))) → MatchOption o ((rest : List ℕ) → w ≢ 105 ∷ rest) (λ x. w ≡ 105 ∷ x.now) → o ≡ None → None ≡ width_of w
-  begins_or_not None h e = no_width w h
-  begins_or_not (Some x) h e = absurd cc
-
-  begins : (o : Option (Bor (List ℕ))) (x : Bor (List ℕ)) → MatchOption o ((rest : List ℕ) → w ≢ 105 ∷ rest) (λ y. w ≡ 105 ∷ y.now) → o ≡ Some x → w ≡ 105 ∷ x.now
-  begins None x h e = absurd cc
-  begins (Some y) x h e = let same : y ≡ x = cc in subst (λ (z : Bor (List ℕ)). w ≡ 105 ∷ z.now) same h
+  by_prefix : (o : Option (Bor (List ℕ))) → r ≡ o → MatchOption o ((rest : List ℕ) → w ≢ 105 ∷ rest) (λ x. w ≡ 105 ∷ x.now)
+  by_prefix o e = subst (λ (z : Option (Bor (List ℕ))). MatchOption z ((rest : List ℕ) → w ≢ 105 ∷ rest) (λ x. w ≡ 105 ∷ x.now)) e (strip_prefix_char 105 w r cases (lit< tt))
 
   pub width_of_no_prefix : r ≡ None → None ≡ width_of w
-  width_of_no_prefix e = begins_or_not r (strip_prefix_char 105 w r cases (lit< tt)) e
+  width_of_no_prefix e = no_width w (by_prefix None e)
 
   pub digits_behind : (x : Bor (List ℕ)) → r ≡ Some x → w ≡ 105 ∷ x.now
-  digits_behind x e = begins r x (strip_prefix_char 105 w r cases (lit< tt)) e
+  digits_behind x e = by_prefix (Some x) e
 
 width_by : (w ds : List ℕ) → w ≡ 105 ∷ ds → width_of w ≡ width_in ds
 width_by w ds e = ap width_of e
-
--- what a width's test asks
-all_four : (ds : List ℕ) → is_width ds ≡ true → (nat_lt 0 (length ds) ≡ true) × (are_digits ds ≡ true) × (nat_lt 0 (digits_value 10 ds) ≡ true) × (nat_lt (digits_value 10 ds) (2 ^ 16) ≡ true)
-all_four ds e =
-    let k = and_parts (is_numeral ds) (nat_lt 0 (digits_value 10 ds) && nat_lt (digits_value 10 ds) (2 ^ 16)) e in
-    let front = and_parts (nat_lt 0 (length ds)) (are_digits ds) k.0 in
-    let back = and_parts (nat_lt 0 (digits_value 10 ds)) (nat_lt (digits_value 10 ds) (2 ^ 16)) k.1 in
-    (front.0, front.1, back.0, back.1)
 
 -- what `parse` returns if each byte is a digit
 width_parsed : {E : Type 0} (ds : List ℕ) (r : Result ℕ E) → are_digits ds ≡ true → ParsesUnsigned 16 10 ds r → OkIff r ((0 < length ds) × (digits_value 10 ds < 2 ^ 16)) (digits_value 10 ds)
@@ -125,4 +112,6 @@ width_read w ds n r e d h is more =
 pub width_refused : {E : Type 0} (w ds : List ℕ) (r : Result ℕ E) (x : E) → w ≡ 105 ∷ ds → are_digits ds ≡ true → ParsesUnsigned 16 10 ds r → r ≡ Err x → None ≡ width_of w
 width_refused w ds r x e d h is =
     let no = OkIff-at_err r ((0 < length ds) × (digits_value 10 ds < 2 ^ 16)) (digits_value 10 ds) x (width_parsed ds r d h) is in
-    sym (width_by w ds e ∙ none_if (is_width ds) (digits_value 10 ds) (λ t. let k = all_four ds t in no (ltb-true 0 (length ds) k.0, ltb-true (digits_value 10 ds) (2 ^ 16) k.3)))
+    sym (width_by w ds e ∙ none_if (is_width ds) (digits_value 10 ds) (λ t.
+    let k = and_parts (is_numeral ds) (nat_lt 0 (digits_value 10 ds) && nat_lt (digits_value 10 ds) (2 ^ 16)) t in
+    no (ltb-true 0 (length ds) (and_parts (nat_lt 0 (length ds)) (are_digits ds) k.0).0, ltb-true (digits_value 10 ds) (2 ^ 16) (and_parts (nat_lt 0 (digits_value 10 ds)) (nat_lt (digits_value 10 ds) (2 ^ 16)) k.1).1)))

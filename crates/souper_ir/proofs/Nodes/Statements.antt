@@ -4,7 +4,7 @@ use Rattle.std.specs.Prelude.{codes}
 use Rattle.souper_graph.specs.declared.ast.operands.«Type».{«Type» as Ty}
 use Rattle.souper_graph.specs.declared.ast.statements.Pc.{Pc}
 use Rattle.souper_graph.specs.declared.ast.statements.BlockPc.{BlockPc}
-use Rattle.souper_graph.specs.Values.{PlainAttribute, PlainAssignment, PlainStatement, assigned, condition, block_condition}
+use Rattle.souper_graph.specs.Values.{PlainAssignment, PlainStatement, assigned, condition, block_condition}
 use Rattle.souper_errors.specs.declared.error.ParseError.{ParseError}
 use Rattle.souper_errors.specs.Errors.{at_end_of}
 use Rattle.souper_ir.specs.Parsing.{Parsing}
@@ -80,9 +80,6 @@ block_pc_refused e p q r h k =
 
 -- ---- an assignment from its parts
 
-abbrev Attributes : List PlainAttribute → Parsing → Parsing → Type 0
-Attributes xs q r = Took (Row attribute_form) OneMore (λ s. s) xs q r
-
 pub definition_read : (p k q : Parsing) (d : Definition) → IsRead (heading_at p) (d.name, d.ty) p k → IsRead (rhs_at k) d.value k q → IsRead (definition_at p) d p q
 unfolding definition_at
 definition_read p k q d h v = (rw (h.0, v.0) refl, h.1, v.2, v.3 ∙ h.3)
@@ -95,7 +92,7 @@ pub unread_value : (b : Bool) (p k : Parsing) (h : List ℕ × Option Ty) → he
 unfolding definition_at
 unread_value b p k h e f = rw (e, f) refl
 
-pub parts_taken : (a : PlainAssignment) (p k q r : Parsing) → IsRead (heading_at p) (a.name, a.ty) p k → IsRead (rhs_at k) a.value k q → Attributes a.attributes q r
+pub parts_taken : (a : PlainAssignment) (p k q r : Parsing) → IsRead (heading_at p) (a.name, a.ty) p k → IsRead (rhs_at k) a.value k q → Took (Row attribute_form) OneMore (λ s. s) a.attributes q r
     → TakesAssignment a p r
 parts_taken a p k q r h v xs =
     let d : Definition = record { name = a.name; ty = a.ty; value = a.value } in

@@ -11,7 +11,7 @@ use Rattle.souper_ir.specs.FailureView.{cause_of_failure}
 use Rattle.souper_ir.specs.ParserView.{parsing_of, with_ahead}
 use Rattle.souper_graph.specs.Syntax.Tokens.{Lexeme}
 use Rattle.souper_ir.specs.declared.parse.tokens.Mark.{Mark}
-use Rattle.souper_ir.specs.declared.parse.tokens.Mark.TheVariants.{Comma, Colon, Equals, OpenParen, CloseParen, OpenBracket}
+use Rattle.souper_ir.specs.declared.parse.tokens.Mark.TheVariants.{Comma}
 use Rattle.souper_ir.specs.Parsing.{Parsing}
 use Rattle.souper_ir.specs.Reading.{Reads, ◌>>=◌, looked_up, IsRead, look_at, take_at}
 use Rattle.souper_ir.specs.Grammar.{Comes, peek_at}
@@ -21,11 +21,7 @@ use Rattle.souper_ir.proofs.Nodes.Options.{none_is}
 
 pub mark_itself : (m : Mark) → as_mark (lexeme_of_mark m) (lexeme_of_mark m) ≡ Some tt
 mark_itself Comma = refl
-mark_itself Colon = refl
-mark_itself Equals = refl
-mark_itself OpenParen = refl
-mark_itself CloseParen = refl
-mark_itself OpenBracket = refl
+mark_itself _ = refl
 
 module _ (o : ℕ) (t : Lexeme) (rest : List (ℕ × Lexeme)) (faulty cut : Bool) (len : ℕ) (scope : Scope) where
   abbrev before : Parsing

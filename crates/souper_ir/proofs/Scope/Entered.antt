@@ -64,9 +64,8 @@ none_at_end (x ∷ s) n = none_at_end s n
 
 named_as_before : (s : Scope) (x : PlainStatement) (i : ℕ) (n : List ℕ) → defines_name (Some x) n ≡ false → is_named (s ++ x ∷ []) i n ≡ is_named s i n
 named_as_before [] x zero n h = h
-named_as_before [] x (suc i) n h = refl
-named_as_before (y ∷ s) x zero n h = refl
 named_as_before (y ∷ s) x (suc i) n h = named_as_before s x i n h
+named_as_before _ x _ n h = refl
 
 in_scope_as_before : (s : Scope) (x : PlainStatement) (o : Option NameEntry) (n : List ℕ) → defines_name (Some x) n ≡ false → entry_in_scope (s ++ x ∷ []) o n ≡ entry_in_scope s o n
 in_scope_as_before s x None n h = refl
@@ -129,9 +128,6 @@ not_begun n p i ended h e = rw (h, e) refl
 
 -- ---- one more statement
 
-from_zero : (k : ℕ) → 0 + k ≡ k
-from_zero k = omega arith
-
 or_none : (o : Option NameEntry) → or_else o None ≡ o
 or_none None = refl
 or_none (Some e) = refl
@@ -157,7 +153,8 @@ names_push old new s a are fresh found last = record {
     by_name : (n : List ℕ) (b : Bool) → bytes_eq a.name n ≡ b → (if b then Some (entry_at_end s a) else entry_found old s n) ≡ or_else (entry_of s n) (if b then Some (0 + length s, predecessors_if_block a.value) else None)
     by_name n true is =
         let none : entry_of s n ≡ None = subst (λ (m : List ℕ). entry_of s m ≡ None) ((bytes_eq-Decides a.name n).0 is) (no_entry (entry_of s a.name) fresh) in
-        rw (none, from_zero (length s)) refl
+        let same : 0 + length s ≡ length s = omega arith in
+        rw (none, same) refl
     by_name n false other = are.entries n ∙ sym (or_none (entry_of s n))
 
 -- the new name is put into the table

@@ -72,10 +72,6 @@ OfKind (bits_kind w) x = (bits : List (Option Bool)) × (x ≡ known_bits_attrib
 OfKind sign_bits_kind x = (n : ℕ) × (x ≡ sign_bits n)
 OfKind range_kind x = (low : ℤ) × (high : ℤ) × (x ≡ range low high)
 
-abbrev sign_bits_in : PlainAttribute → ℕ
-sign_bits_in (sign_bits n) = n
-sign_bits_in _ = 0
-
 abbrev low_in : PlainAttribute → ℤ
 low_in (range low high) = low
 low_in _ = pos 0
@@ -86,16 +82,16 @@ high_in _ = pos 0
 
 -- what comes after the token of the kind
 abbrev rest_of : AttributeKind → PlainAttribute → Form
-rest_of (plain_kind a) x = nothing
-rest_of (bits_kind w) x = nothing
-rest_of sign_bits_kind x = token equals · one int (count_of (2 ^ 8)) (sign_bits_in x)
+rest_of sign_bits_kind (sign_bits n) = token equals · one int (count_of (2 ^ 8)) n
 rest_of range_kind x = token equals · token open_bracket · one int number_of (low_in x) · token comma · one int number_of (high_in x) · token close_paren
+rest_of _ x = nothing
 
 attribute_by_rule : (k : AttributeKind) → Rule (OfKind k) (λ s. rest_of k) Never (attribute_by k)
 attribute_by_rule (plain_kind a) = done a refl (λ x i. i) (λ s ts h. h) (λ s. refl) (λ t h. h)
 attribute_by_rule (bits_kind w) =
     given (known_bits_of w) (λ x i. (i.0, i.2)) (λ bits e. done (known_bits_attribute bits) (bits, refl, e) (λ x i. i.1 ∙ ap known_bits_attribute (some_is (sym i.2 ∙ e))) (λ s ts h. h) (λ s. refl) (λ t h. h))
-attribute_by_rule sign_bits_kind = after (mark equals refl) (last sign_bits (λ n i. (n, refl)) (λ x i. (i.0, tt, i.1)) (int_read (count_of (2 ^ 8))))
+attribute_by_rule sign_bits_kind = reread _ (λ p. regrouped (accept (as_mark equals) p) (λ e. accept (int_by (count_of (2 ^ 8))) e.1) (λ n. Ok (sign_bits n.0, n.1)))
+    (last sign_bits (λ n i. (n, refl)) (λ x i. (i.0, tt, i.1)) (after (mark equals refl) (int_read (count_of (2 ^ 8)))))
 attribute_by_rule range_kind =
     after (mark equals refl) (after (mark open_bracket refl) (
     first low_in (int_read number_of) (λ low. after (mark comma refl) (
@@ -215,9 +211,8 @@ root_attribute_first s a ts h = let k = root_apart a ts h in rw (k.whole, k.firs
 
 -- a list whose members nothing continues is continued by one more
 pub last_ends : {V : Type 0} (vs : List V) (t : Lexeme) → LastGoesOn (λ v t. ⊥) vs t → ⊥
-last_ends [] t h = h
-last_ends (v ∷ []) t h = h
 last_ends (v ∷ (w ∷ vs)) t h = last_ends (w ∷ vs) t h
+last_ends _ t h = h
 
 pub goes_on_by_paren : {V : Type 0} (vs : List V) (t : Lexeme) → ListGoesOn (λ v t. ⊥) (is_mark open_paren) vs t → t ≡ open_paren
 goes_on_by_paren vs t (inl h) = is_mark_means open_paren t h

@@ -6,24 +6,22 @@ use Rattle.souper_ir.specs.Parsing.{Cause, Parsing}
 use Rattle.souper_ir.specs.Reading.{◌>>=◌, looked_up, take_in, take_at}
 use Rattle.souper_ir.specs.Grammar.{NextStops, Starts, peek_at}
 use Rattle.souper_ir.specs.NodeReadings.{accept}
-use Rattle.souper_ir.specs.Laws.Peeks.{ok_is, Answers, answered}
+use Rattle.souper_ir.specs.Laws.Peeks.{ok_is, Answers, decided, answered}
 use Rattle.souper_ir.specs.Laws.Steps.{TakesTokens, At, bind_ok, up_ok}
 
 -- ---- a token is taken
 
 take_some : (failed : Option Cause) (cut : Bool) (ts : List (ℕ × Lexeme)) (t : Lexeme) (rest : List (ℕ × Lexeme)) → take_in failed cut ts ≡ Ok (t, rest) → (o : ℕ) × (ts ≡ (o, t) ∷ rest)
-take_some (Some c) cut ts t rest e = absurd cc
-take_some None cut [] t rest e = absurd cc
 take_some None cut (u ∷ ts) t rest e =
     let same : ◌≡◌ {A = Lexeme × List (ℕ × Lexeme)} (u.1, ts) (t, rest) = ok_is e in
     (u.0, ap (λ (x : Lexeme × List (ℕ × Lexeme)). (u.0, x.0) ∷ x.1) same)
+take_some _ cut _ t rest e = absurd cc
 
 take_is : (failed : Option Cause) (cut : Bool) (ts : List (ℕ × Lexeme)) (t : Lexeme) (rest : List Lexeme) → failed ≡ None → kinds ts ≡ t ∷ rest → (more : List (ℕ × Lexeme)) × (take_in failed cut ts ≡ Ok (t, more)) × (kinds more ≡ rest)
-take_is (Some c) cut ts t rest live e = absurd cc
-take_is None cut [] t rest live e = absurd cc
 take_is None cut (u ∷ ts) t rest live e =
     let same : u.1 ≡ t = cc in
     (ts, ap (λ (x : Lexeme). Ok (x, ts)) same, cc)
+take_is _ cut _ t rest live e = absurd cc
 
 -- a token with a meaning is taken
 pub accepted : {A : Type 0} (meaning : Lexeme → Option A) (p q : Parsing) (a : A) → accept meaning p ≡ Ok (a, q) → (t : Lexeme) × (meaning t ≡ Some a) × TakesTokens p q (t ∷ [])
@@ -50,38 +48,25 @@ accepts meaning p t a rest at m =
 
 -- ---- a peek
 
-answers_yes : (starts : Lexeme → Bool) (faulty : Bool) (ts : List (ℕ × Lexeme)) → Starts starts (kinds ts) → Answers starts true faulty ts
-answers_yes starts faulty [] h = absurd h
-answers_yes starts faulty (t ∷ ts) h = h
-
-if_not : (b : Bool) → ¬ (b ≡ true) → b ≡ false
-if_not true h = absurd (h refl)
-if_not false h = refl
-
-answers_no : (starts : Lexeme → Bool) (faulty : Bool) (ts : List (ℕ × Lexeme)) → NextStops (λ t. starts t ≡ true) faulty (kinds ts) → Answers starts false faulty ts
-answers_no starts faulty [] h = (refl, h)
-answers_no starts faulty (t ∷ ts) h = if_not (starts t.1) h
-
 pub starts_longer : (starts : Lexeme → Bool) (a b : List Lexeme) → Starts starts a → Starts starts (a ++ b)
 starts_longer starts [] b h = absurd h
 starts_longer starts (t ∷ a) b h = h
 
 -- a start comes next, or none
 pub sees : (starts : Lexeme → Bool) (p : Parsing) (ts : List Lexeme) → At p ts → Starts starts ts → peek_at starts p ≡ Ok (true, p)
-sees starts p ts at h = answered starts p true at.live (answers_yes starts p.faulty p.tokens (subst (Starts starts) (sym at.kinds_are) h))
+sees starts p ts at h = answered starts p true at.live (subst (Starts starts) (sym at.kinds_are) h)
 
 pub sees_none : (starts : Lexeme → Bool) (p : Parsing) (ts : List Lexeme) → At p ts → NextStops (λ t. starts t ≡ true) p.faulty ts → peek_at starts p ≡ Ok (false, p)
-sees_none starts p ts at h = answered starts p false at.live (answers_no starts p.faulty p.tokens (subst (NextStops (λ t. starts t ≡ true) p.faulty) (sym at.kinds_are) h))
+sees_none starts p ts at h = answered starts p false at.live (subst (NextStops (λ t. starts t ≡ true) p.faulty) (sym at.kinds_are) h)
 
 -- the first token is a start, or it is none
 abbrev pub Shows : (Lexeme → Bool) → Bool → List Lexeme → Type 0
 Shows starts b [] = ⊥
 Shows starts b (t ∷ ts) = starts t ≡ b
 
-answers_shown : (starts : Lexeme → Bool) (b faulty : Bool) (front rest : List Lexeme) (ts : List (ℕ × Lexeme)) → kinds ts ≡ front ++ rest → Shows starts b front → Answers starts b faulty ts
-answers_shown starts b faulty [] rest ts e h = absurd h
-answers_shown starts b faulty (u ∷ front) rest [] e h = absurd cc
-answers_shown starts b faulty (u ∷ front) rest (t ∷ ts) e h = let same : t.1 ≡ u = cc in rw same h
+shown : (starts : Lexeme → Bool) (b faulty : Bool) (front rest : List Lexeme) → Shows starts b front → Answers starts b faulty (front ++ rest)
+shown starts b faulty [] rest h = absurd h
+shown starts b faulty (t ∷ front) rest h = decided starts b faulty t (front ++ rest) h
 
 pub shows : (starts : Lexeme → Bool) (b : Bool) (p : Parsing) (front rest : List Lexeme) → At p (front ++ rest) → Shows starts b front → peek_at starts p ≡ Ok (b, p)
-shows starts b p front rest at h = answered starts p b at.live (answers_shown starts b p.faulty front rest p.tokens at.kinds_are h)
+shows starts b p front rest at h = answered starts p b at.live (subst (Answers starts b p.faulty) (sym at.kinds_are) (shown starts b p.faulty front rest h))

@@ -158,16 +158,13 @@ kind reserved_inst = begins_reserved_inst
 kind reserved_const = begins_reserved_const
 kind (instruction i) = begins_instruction (opcode i)
 
-abbrev wording : PlainRhs → List ℕ
-wording v = word_of (kind v)
-
-rhs_to : (s : Scope) (v : PlainRhs) (ts : List Lexeme) → (word (wording v) · body s v) ts → rhs s v ts
+rhs_to : (s : Scope) (v : PlainRhs) (ts : List Lexeme) → (word (word_of (kind v)) · body s v) ts → rhs s v ts
 rhs_to s (block b) ts h = h
 rhs_to s (phi p) ts h = h
 rhs_to s (instruction i) ts h = rw (word_is_by i) at h
 rhs_to s _ ts h = without_nothing (word _) ts h
 
-rhs_from : (s : Scope) (v : PlainRhs) (ts : List Lexeme) → rhs s v ts → (word (wording v) · body s v) ts
+rhs_from : (s : Scope) (v : PlainRhs) (ts : List Lexeme) → rhs s v ts → (word (word_of (kind v)) · body s v) ts
 rhs_from s (block b) ts h = h
 rhs_from s (phi p) ts h = h
 rhs_from s (instruction i) ts h = rw (word_is_by i) h
@@ -188,13 +185,10 @@ made (phi p) = (p, tt, refl)
 made (instruction i) = (i, (tt, refl), refl)
 made _ = refl
 
-abbrev Kind : RhsWord → PlainRhs → Type 0
-Kind k v = Any v × (kind v ≡ k)
-
-made_by : (k : RhsWord) (v : PlainRhs) → Kind k v → Made k v
+made_by : (k : RhsWord) (v : PlainRhs) → Any v × (kind v ≡ k) → Made k v
 made_by k v i = subst (λ (z : RhsWord). Made z v) i.1 (made v)
 
-rhs_by_rule : (k : RhsWord) → Rule (Kind k) body rhs_continues (rhs_by k)
+rhs_by_rule : (k : RhsWord) → Rule (λ v. Any v × (kind v ≡ k)) body rhs_continues (rhs_by k)
 rhs_by_rule begins_var = done var (tt, refl) (made_by begins_var) (λ s ts h. h) (λ s. refl) (λ t h. h)
 rhs_by_rule begins_block = last block (λ b i. (tt, refl)) (made_by begins_block) block_after_rule
 rhs_by_rule begins_phi = last phi (λ p i. (tt, refl)) (made_by begins_phi) phi_after_rule
@@ -205,4 +199,4 @@ rhs_by_rule (begins_instruction o) = last instruction (λ i e. (tt, ap begins_in
 pub rhs_rule : Rule Any rhs rhs_continues rhs_at
 unfolding rhs_at
 rhs_rule = reformed (λ s v ts i h. (i, rhs_to s v ts h)) (λ s v ts i h. (i, rhs_from s v ts h))
-    (worded rhs_word_of wording kind (λ v. word_of_is (kind v)) (λ w v e. word_means (opcode_of w) w (kind v) refl e) rhs_word_rule rhs_by_rule)
+    (worded rhs_word_of (λ v. word_of (kind v)) kind (λ v. word_of_is (kind v)) (λ w v e. word_means (opcode_of w) w (kind v) refl e) rhs_word_rule rhs_by_rule)

@@ -9,7 +9,7 @@ use Rattle.souper_ir.specs.Reading.{Reads, ◌>>=◌, looked_up}
 use Rattle.souper_ir.specs.Grammar.{Free, NextStops, Starts, peek_at}
 use Rattle.souper_ir.specs.NodeReadings.{accept, as_name, as_mark, as_word, int_by, ident_by}
 use Rattle.souper_ir.specs.Laws.Unique.{never, Free-weaker, NextStops-weaker, Free-from_NextStops}
-use Rattle.souper_ir.specs.Laws.Peeks.{ok_is, Answers, peeked, peeked_no}
+use Rattle.souper_ir.specs.Laws.Peeks.{ok_is, Answers, peeked}
 use Rattle.souper_ir.specs.Laws.Steps.{TakesTokens, Takes-then, Takes-none, state_then, taken_ahead, At, bind_ok, up_ok}
 use Rattle.souper_ir.specs.Laws.Tokens.{name_means, mark_means, word_means, word_of_is, int_means, ident_means}
 use Rattle.souper_ir.specs.Laws.Next.{accepted, accepts, sees, sees_none, starts_longer, Shows, shows}
@@ -208,9 +208,8 @@ module _ {A V : Type 0} (Has : V → A → Type 0) (G : FormOf V) (c : A → Lex
 
 -- nothing continues the first part
 pub quiet : {A V : Type 0} (Has : V → A → Type 0) (G : FormOf V) (d : V → Lexeme → Type 0) → Over Has G Never d d
-quiet Has G d faulty s v a (t ∷ b) rest i h st = λ x. x
-quiet Has G d faulty s v a [] (t ∷ rest) i h st = λ x. x
 quiet Has G d faulty s v a [] [] i h st = st
+quiet Has G d faulty s v a _ _ i h st = λ x. x
 
 -- the second part ends the whole
 pub second_ends : {A V : Type 0} (Has : V → A → Type 0) (G : FormOf V) (c : A → Lexeme → Type 0) (d : V → Lexeme → Type 0) → Ends Has G c d d
@@ -277,19 +276,16 @@ module _ {A : Type 0} {F : FormOf A} (f : Bool → ReadingOf (Option A)) (starts
   abbrev Chosen : Parsing → Parsing → Option A → Type 0
   Chosen p q o = Took Any (λ s. optional (F s)) d p q o
 
-  chosen : (b : Bool) (p q : Parsing) (o : Option A) → p.failed ≡ None → Answers starts b p.faulty p.tokens → f b p ≡ Ok (o, q) → Chosen p q o
+  chosen : (b : Bool) (p q : Parsing) (o : Option A) → p.failed ≡ None → Answers starts b p.faulty (kinds p.tokens) → f b p ≡ Ok (o, q) → Chosen p q o
   chosen false p q o live seen e =
       let same : ◌≡◌ {A = Option A × Parsing} (None, p) (o, q) = ok_is (sym (without p) ∙ e) in
-      let free : Free (d None) (kinds p.tokens) = Free-weaker (λ t. starts t ≡ true) (d None) (kinds p.tokens) goes (Free-from_NextStops _ p.faulty (kinds p.tokens) (peeked_no starts p.faulty p.tokens seen)) in
+      let free : Free (d None) (kinds p.tokens) = Free-weaker (λ t. starts t ≡ true) (d None) (kinds p.tokens) goes (Free-from_NextStops _ p.faulty (kinds p.tokens) seen) in
       subst (λ (x : Option A × Parsing). Chosen p x.1 x.0) same (record { used = []; taken = Takes-none p; is = tt; formed = refl; free = free })
   chosen true p q o live seen e =
       let k = m.sound p q o live e in
       record { used = k.used; taken = k.taken; is = tt; formed = k.formed; free = k.free }
 
-  abbrev reading : ReadingOf (Option A)
-  reading p = peek_at starts p >>= λ b. f b.0 b.1
-
-  choose : (p : Parsing) (o : Option A) (front rest : List Lexeme) → At p (front ++ rest) → optional (F p.scope) o front → NextStops (d o) p.faulty rest → ReadsValue reading o p rest
+  choose : (p : Parsing) (o : Option A) (front rest : List Lexeme) → At p (front ++ rest) → optional (F p.scope) o front → NextStops (d o) p.faulty rest → ReadsValue (λ p. peek_at starts p >>= λ b. f b.0 b.1) o p rest
   choose p None front rest at h st =
       let here : At p rest = subst (λ (x : List Lexeme). At p (x ++ rest)) h at in
       record { next = p; is_read = rw (sees_none starts p rest here (NextStops-weaker (d None) (λ t. starts t ≡ true) p.faulty rest stops st)) (without p); ahead = here; state = refl }

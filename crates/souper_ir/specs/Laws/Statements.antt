@@ -194,8 +194,7 @@ begins_line _ = false
 
 pub starts_begins : (t : Lexeme) → starts_statement t ≡ true → begins_line t ≡ true
 starts_begins (val_name n) e = refl
-starts_begins (ident w) e = refl
-starts_begins _ e = absurd cc
+starts_begins _ e = cc
 
 begins_no_more : (t : Lexeme) → begins_line t ≡ true → GoesOn t → ⊥
 begins_no_more t b (inl e) = let bad : false ≡ true = subst (λ (u : Lexeme). begins_line u ≡ true) e b in cc
@@ -264,8 +263,7 @@ infer_first s i ts h = word_first (codes "infer") ts h
 
 pub statement_first : (s : Scope) (v : PlainStatement) (ts : List Lexeme) → statement s v ts → Starts starts_statement ts
 statement_first s (assigned a) ts h = rw (h.whole, h.first.0) refl
-statement_first s (condition p) ts h = rw (h.whole, h.first) refl
-statement_first s (block_condition p) ts h = rw (h.whole, h.first) refl
+statement_first s _ ts h = rw (h.whole, h.first) refl
 
 -- ---- statements
 
@@ -285,8 +283,7 @@ kind (block_condition p) = kind_block_pc
 
 pub statement_kind : (s : Scope) (v : PlainStatement) (a b ts : List Lexeme) → statement s v a → ts ≡ a ++ b → next_of ts ≡ kind v
 statement_kind s (assigned v) a b ts h e = rw (e, h.whole, h.first.0) refl
-statement_kind s (condition p) a b ts h e = rw (e, h.whole, h.first) refl
-statement_kind s (block_condition p) a b ts h e = rw (e, h.whole, h.first) refl
+statement_kind s _ a b ts h e = rw (e, h.whole, h.first) refl
 
 pub statement_alone : Alone statement statement_continues
 statement_alone s (assigned v) (assigned w) a b c d e m n f g = let k = assignment_laws.alone s v w a b c d e m n f g in (k.0, ap assigned k.1)

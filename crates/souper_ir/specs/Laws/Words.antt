@@ -75,14 +75,11 @@ pub named : {K : Type 0} (word : K → List ℕ) (xs : List K) (w : List ℕ) (k
 named word [] w k e = absurd cc
 named word (x ∷ xs) w k e = by_word (λ w k. w ≡ word k) w (word x) x k (named_in word xs w) e refl (named word xs w k)
 
-abbrev IsNamed : Option Opcode → List ℕ → Opcode → Type 0
-IsNamed n w o = n ≡ Some o → w ≡ word_by o
-
-either_named : (b : Bool) (m n : Option Opcode) (w : List ℕ) (o : Opcode) → IsNamed m w o → IsNamed n w o → IsNamed (if b then m else n) w o
+either_named : (b : Bool) (m n : Option Opcode) (w : List ℕ) (o : Opcode) → (m ≡ Some o → w ≡ word_by o) → (n ≡ Some o → w ≡ word_by o) → (if b then m else n) ≡ Some o → w ≡ word_by o
 either_named true m n w o f g = f
 either_named false m n w o f g = g
 
-pub opcode_named : (w : List ℕ) (o : Opcode) → IsNamed (opcode_of w) w o
+pub opcode_named : (w : List ℕ) (o : Opcode) → opcode_of w ≡ Some o → w ≡ word_by o
 opcode_named w o =
     either_named (nat_eq (length w) 2) _ _ w o (named word_by (do_or ∷ do_eq ∷ do_ne ∷ []) w o) (
     either_named (nat_eq (length w) 3) _ _ w o (named word_by (do_add ∷ do_sub ∷ do_mul ∷ do_and ∷ do_xor ∷ do_shl ∷ do_ult ∷ do_slt ∷ do_ule ∷ do_sle ∷ []) w o) (
