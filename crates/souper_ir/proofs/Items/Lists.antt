@@ -106,9 +106,9 @@ all_used k vs p q r so h =
     let none = none_left q.faulty q.tokens (peeked is_any q r false h.0).2 in
     (so.parts ∙ ap (λ (x : List (ℕ × Lexeme)). so.used ++ x) none.0 ∙ append-nil so.used, none.1)
   where
-    none_left : (faulty : Bool) (ts : List (ℕ × Lexeme)) → Answers is_any false faulty ts → (ts ≡ []) × (faulty ≡ false)
-    none_left faulty [] h = (refl, h.1)
-    none_left faulty (t ∷ ts) h = absurd cc
+    none_left : (faulty : Bool) (ts : List (ℕ × Lexeme)) → Answers is_any false faulty (kinds ts) → (ts ≡ []) × (faulty ≡ false)
+    none_left faulty [] h = (refl, h)
+    none_left faulty (t ∷ ts) h = absurd (h refl)
 
 pub all_taken : (k : ItemType) (vs : List Item) (starts : List ℕ) (p q r : Parsing) → (so : ItemsTaken k vs p q) → SpellEachFrom k vs starts so.used → IsRead (peek_at is_any q) false q r → SpellsAll k vs p × SpellEachFrom k vs starts p.tokens
 all_taken k vs starts p q r so each h =

@@ -8,7 +8,7 @@ use Rattle.souper_ir.specs.Parsing.{Parsing}
 use Rattle.souper_ir.specs.Reading.{Reads, ◌>>=◌, look_in, look_at, IsRead}
 use Rattle.souper_ir.specs.Grammar.{starts_next, peek_at}
 use Rattle.souper_ir.specs.NodeReadings.{is_name, is_word, starts_statement}
-use Rattle.souper_ir.specs.NextStatement.{next_statement_by, next_statement_of, next_at, NextIs}
+use Rattle.souper_ir.specs.NextStatement.{next_statement_by, next_statement_of, next_at}
 use Rattle.souper_ir.specs.Laws.Peeks.{ok_is}
 use Rattle.souper_ir.specs.Laws.Steps.{bind_ok}
 
@@ -106,6 +106,3 @@ next_stays p q n e =
     let looked : ◌≡◌ {A = Option Lexeme × Parsing} (l.0, p) s.0 = ok_is l.2 in
     let same : ◌≡◌ {A = Next × Parsing} (next_statement_of s.0.0, s.0.1) (n, q) = ok_is s.2 in
     ap (λ (x : Option Lexeme × Parsing). x.1) looked ∙ ap (λ (x : Next × Parsing). x.1) same
-
-pub begins_here : (n : Next) (p q : Parsing) → IsRead (next_at p) n p q → NextIs n q
-begins_here n p q h = subst (λ (x : Parsing). IsRead (next_at x) n x q) (next_stays p q n h.0) h

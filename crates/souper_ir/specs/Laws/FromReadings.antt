@@ -7,7 +7,7 @@ use Rattle.souper_errors.specs.Errors.{at_end_of}
 use Rattle.souper_ir.specs.Parsing.{Cause, no_memory, Parsing}
 use Rattle.souper_graph.specs.Syntax.Tokens.{Lexeme}
 use Rattle.souper_graph.specs.Syntax.Spelling.{kinds, Scope}
-use Rattle.souper_ir.specs.Reading.{Gives, cause_of, IfRefused, if_refused, Fails, FailsForMemory, fails_later, IsRead}
+use Rattle.souper_ir.specs.Reading.{Gives, cause_of, IfRefused, if_refused, Fails, IsRead}
 use Rattle.souper_ir.specs.Grammar.{Took, NoFront, Refusal}
 use Rattle.souper_ir.specs.Laws.Peeks.{ok_is}
 use Rattle.souper_ir.specs.Laws.Unique.{Alone, NextStops-from_Free}
@@ -50,7 +50,3 @@ module _ {Y : Type 0} {spells : Scope → Y → List Lexeme → Type 0} {continu
 -- out of memory refuses no text
 pub of_memory : (P : Type 0) (e : ParseError) → cause_of e ≡ Some no_memory → IfRefused (cause_of e) P
 of_memory P e h = subst (λ (o : Option Cause). IfRefused o P) (sym h) tt
-
-pub memory_refused : {V : Type 0} (spells : Scope → V → List Lexeme → Type 0) (continues : V → Lexeme → Type 0) (e : ParseError) (p q r : Parsing)
-    → q.failed ≡ p.failed → q.len ≡ p.len → FailsForMemory e q r → Refusal spells continues e p r
-memory_refused spells continues e p q r f l h = record { failed = fails_later e p q r f l h.1; nothing = of_memory _ e h.0 }
