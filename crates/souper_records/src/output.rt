@@ -40,6 +40,9 @@ impl Output {
 
 /// What a sink keeps of an item until the output of its part is written.
 pub trait Shown {
+    ghost use Rattle.souper_records.specs.declared.layout.Layout.{Layout};
+    ghost use Rattle.souper_stream.specs.declared.starts.Start.{Start};
+
     // Its records, and the lines of its objects, given the name of the stream and where the item begins.
     ghost as_records: { Layout → Self → List ℕ };
 
