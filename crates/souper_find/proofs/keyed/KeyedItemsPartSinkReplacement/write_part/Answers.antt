@@ -14,6 +14,6 @@ returns-clause-written g c = λ first start os before o wrote idle taken starts 
     let name = c.args.part.name.now in
     let written : string_bytes c.in_ok-text.text ≡ outcome_keyed before.output name o =
     c.in_ok-text.ensures ∙ part_text_viewed (λ (l : Layout) (k : Keyed). keyed_record l (view_keyed k)) (λ (n : List ℕ) (p : Start × Keyed). keyed_line n (p.0, view_keyed p.1)) keyed_record keyed_line view_keyed (λ l v. refl) (λ n s v. refl)
-        c.args.self.now.output name c.args.part.starts.now (option_copied c.args.refusal) c.args.self.now.items.items
+    c.args.self.now.output name c.args.part.starts.now (option_copied c.args.refusal) c.args.self.now.items.items
     ∙ (λ i. part_keyed (taken.0 i) name (sym starts i) (sym refusal i) (taken.1 i)) in
     (taken.0 ∙ wrote.0, rw (flat_map-append, append-nil) (Appends-trans _ _ _ _ _ wrote.1 (rw (written, wrote.0) at c.in_ok-write_text.ensures.written)))
