@@ -159,12 +159,14 @@ def cases(task, records, *words):
         return are_stored(texts, of_sqlite(*words))
     if task == "postgres":
         return are_stored(texts, of_postgres(*words))
-    sys.exit(__doc__)
+    print(__doc__, file=sys.stderr)
+    sys.exit(2)
 
 
 if __name__ == "__main__":
     if len(sys.argv) < 4:
-        sys.exit(__doc__)
+        print(__doc__, file=sys.stderr)
+        sys.exit(2)
     passed = failed = 0
     for case, holds in cases(*sys.argv[1:]):
         if holds:

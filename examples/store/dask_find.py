@@ -47,6 +47,8 @@ def parts_of(paths, count):
 def main(scheduler, store, options, folder):
     store = str(pathlib.Path(store).resolve(strict=True))
     paths = sorted(str(path) for path in pathlib.Path(folder).resolve(strict=True).rglob("*.lhs") if path.is_file())
+    if not paths:
+        raise FileNotFoundError(f"{folder} has no file *.lhs")
     faults = b""
     with Client(scheduler) as client:
         threads = [worker for worker, count in client.ncores().items() for _ in range(count)]
@@ -64,7 +66,8 @@ def main(scheduler, store, options, folder):
 
 if __name__ == "__main__":
     if len(sys.argv) < 4:
-        sys.exit(__doc__)
+        print(__doc__, file=sys.stderr)
+        sys.exit(2)
     try:
         sys.exit(main(sys.argv[1], sys.argv[2], sys.argv[3:-1], sys.argv[-1]))
     except OSError as fault:

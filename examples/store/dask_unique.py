@@ -49,6 +49,8 @@ def total(parts):
 
 def main(scheduler, words, folder):
     paths = sorted(str(path) for path in pathlib.Path(folder).resolve().rglob(f"*.{words[-1]}") if path.is_file())
+    if not paths:
+        raise FileNotFoundError(f"{folder} has no file *.{words[-1]}")
     with Client(scheduler) as client:
         counted = client.map(counts_of, paths, words=words, pure=False)
         parts = [client.map(part_of, counted, digit=digit) for digit in DIGITS]
@@ -62,8 +64,9 @@ def main(scheduler, words, folder):
 
 
 if __name__ == "__main__":
-    if not 4 <= len(sys.argv) <= 5:
-        sys.exit(__doc__)
+    if sys.argv[2:-2] not in ([], ["--rename"]) or sys.argv[-2] not in ("lhs", "rhs", "rep"):
+        print(__doc__, file=sys.stderr)
+        sys.exit(2)
     try:
         sys.exit(main(sys.argv[1], sys.argv[2:-1], sys.argv[-1]))
     except OSError as fault:

@@ -146,7 +146,8 @@ if __name__ == "__main__":
     options = [word for word in sys.argv[1:] if word in ("--lhs-key", "--rename")]
     words = [word for word in sys.argv[1:] if word not in options]
     if len(words) != 1 or not words[0].isdecimal():
-        sys.exit(__doc__)
+        print(__doc__, file=sys.stderr)
+        sys.exit(2)
     try:
         sys.exit(main(int(words[0]), options))
     except OSError as fault:

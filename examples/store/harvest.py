@@ -170,6 +170,7 @@ def harvest(kind, folder, items, files, seed):
 if __name__ == "__main__":
     words = sys.argv[1:]
     if not 2 <= len(words) <= 5 or words[0] not in ("lhs", "rhs", "rep"):
-        sys.exit(__doc__)
+        print(__doc__, file=sys.stderr)
+        sys.exit(2)
     numbers = [int(word) for word in words[2:]] + [100000, 100, 1][len(words) - 2:]
     harvest(words[0], pathlib.Path(words[1]), *numbers)

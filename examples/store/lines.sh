@@ -10,6 +10,11 @@
 # `tr '\t\n' '\n\0'` makes keyed records of the lines. A file that is refused is reported, and counted by a counter of Hadoop; the
 # items before its bad one have their lines. The status is 2 if a file could not be read.
 set -o pipefail
+usage() { echo "usage: lines.sh [--lhs-key] [--rename] KIND" >&2 && exit 2; }
+case ${*: -1} in lhs | rhs | rep) ;; *) usage ;; esac
+for option in "${@:1:$#-1}"; do
+    case $option in --lhs-key | --rename) ;; *) usage ;; esac
+done
 
 # Writes the keyed records of standard input, and takes all of it, so that what writes to it does not fail.
 records() {

@@ -198,7 +198,8 @@ if __name__ == "__main__":
     stores = {"redis": (redis, 1), "sqlite": (sqlite, 0), "postgres": (postgres, 0)}
     words = sys.argv[1:]
     if not words or words[0] not in stores or len(words) != stores[words[0]][1] + 1:
-        sys.exit(__doc__)
+        print(__doc__, file=sys.stderr)
+        sys.exit(2)
     try:
         source = Source()
         for written in stores[words[0]][0](source, *words[1:]):

@@ -7,8 +7,8 @@
 # which hosts, as to records.sh. These have psql and this folder. A password is in ~/.pgpass on each host, or in the file that $PGPASSFILE
 # names; $PGPASSWORD reaches this host alone.
 set -o pipefail
-[ $# -ge 2 ] || { echo "usage: postgres.sh [--lhs-key] [--rename] KIND FOLDER" >&2; exit 2; }
-here=$(cd "$(dirname "$0")" && pwd) kind=${*: -2:1} folder=${*: -1} database=()
+here=$(cd "$(dirname "$0")" && pwd) database=()
+. "$here/arguments.sh"
 cd "$folder" || exit 2
 PGOPTIONS="$PGOPTIONS --client-min-messages=warning" psql -qXw -v ON_ERROR_STOP=1 -f "$here/table.sql" || exit 2
 . "$here/hosts.sh"
@@ -16,7 +16,7 @@ PGOPTIONS="$PGOPTIONS --client-min-messages=warning" psql -qXw -v ON_ERROR_STOP=
 for name in $(compgen -e PG); do [ "$name" = PGPASSWORD ] || database+=("$name=${!name}"); done
 find . -type f -name "*.$kind" -print0 | LC_ALL=C sort -z |
     parallel --null --no-run-if-empty --max-args 8 --quote "${where[@]}" \
-        env "${database[@]}" SOUPER_ITEMS="${SOUPER_ITEMS:-souper_items}" STORE_FOLDER="$(pwd -P)" "$here/add_files.sh" "${@:1:$#-1}"
+        env "${database[@]}" SOUPER_ITEMS="${SOUPER_ITEMS:-souper_items}" STORE_FOLDER="$(pwd -P)" "$here/add_files.sh" "${options[@]}" "$kind"
 status=$?
 # Without statistics a query of few keys may read all of a table.
 psql -qXw -c 'ANALYZE item, lhs' || exit 2

@@ -5,7 +5,8 @@
 #
 # Each file is added whole, and once, as by sqlite.sh. Arguments, environment and status are those of records.sh.
 set -o pipefail
-[ $# -ge 3 ] || { echo "usage: redis.sh PORT [--lhs-key] [--rename] KIND FOLDER" >&2; exit 2; }
-here=$(dirname "$0")
-kind=${*: -2:1}
-"$here/records.sh" --files "${@:2}" | "$here/load.py" redis "$kind" | redis-cli -p "$1" --pipe --pipe-timeout 600 >&2
+here=$(dirname "$0") port=$1
+[ $# -eq 0 ] || shift
+. "$here/arguments.sh"
+"$here/records.sh" --files "${options[@]}" "$kind" "$folder" | "$here/load.py" redis "$kind" |
+    redis-cli -p "$port" --pipe --pipe-timeout 600 >&2

@@ -6,6 +6,7 @@
 # Each file is added whole, in a transaction that also notes its whole name and its SHA-256. So it counts once, whatever was killed and
 # however often this is run. A file that is refused adds nothing. Arguments, environment and status are those of records.sh.
 set -o pipefail
-[ $# -ge 3 ] || { echo "usage: sqlite.sh STORE [--lhs-key] [--rename] KIND FOLDER" >&2; exit 2; }
-here=$(dirname "$0")
-"$here/records.sh" --files "${@:2}" | "$here/load.py" sqlite | sqlite3 -bail "$1"
+here=$(dirname "$0") store=$1
+[ $# -eq 0 ] || shift
+. "$here/arguments.sh"
+"$here/records.sh" --files "${options[@]}" "$kind" "$folder" | "$here/load.py" sqlite | sqlite3 -bail "$store"

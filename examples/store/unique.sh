@@ -5,4 +5,6 @@
 #
 # Each record has a NUL after it. Arguments, environment and status are those of records.sh.
 set -o pipefail
-"$(dirname "$0")/records.sh" "$@" | LC_ALL=C sort -zu
+here=$(dirname "$0")
+. "$here/arguments.sh"
+"$here/records.sh" "${options[@]}" "$kind" "$folder" | LC_ALL=C sort -zu
