@@ -1,4 +1,4 @@
--- The lines written for a list of items, and for a refusal.
+-- The lines written for a list of items, and for a parse error.
 use lib.ListN.{length-map}
 use Rattle.std.proofs.Common.{◌≡◌, ◌≤◌, ℕ, List, [], ◌∷◌, ◌++◌, map, length, codes, decimal, Option, Some, unwrap_or, inl, inr, refl, ap, sym, ◌∙◌, subst}
 use Rattle.std.specs.Prelude.{Result, Ok, Err, IfOk, IfSome}
@@ -24,7 +24,7 @@ of_count source items n (Ok s) spells is written =
     inl (map view_left_hand_side items, spells, written ∙ ap (λ (k : ℕ). codes "left-hand sides: " ++ decimal k) (is ∙ sym (length-map items view_left_hand_side)))
 of_count source items n (Err e) spells is written = tt
 
--- a refusal of the text at some offset, as the error has it
+-- a parse error of the text at some offset, as the error has it
 abbrev pub IsRefused : List ℕ → ParseError → Type 0
 IsRefused source e = (offset : ℕ) × (offset_of e ≡ Some offset) × (offset ≤ length source) × SpellsNone left_hand_side source
     × ShowsPlace (Some (codes "input.souper")) source offset e × HasLocation source e

@@ -8,7 +8,7 @@ use Rattle.souper_errors.specs.Places.{IsRefusalText}
 abbrev pub ReportsCount : List ℕ → List ℕ → Type 0
 ReportsCount source text = (items : List Item) × TextSpells left_hand_side source items × (text ≡ codes "left-hand sides: " ++ decimal (length items))
 
--- the source spells no items: the offset of the refusal, and then what the error shows
+-- the source spells no items: the offset of the parse error, and then what the error shows
 abbrev pub ReportsRefusal : List ℕ → List ℕ → Type 0
 ReportsRefusal source text = SpellsNone left_hand_side source
     × ((offset : ℕ) × (shown : List ℕ) × IsRefusalText (Some (codes "input.souper")) source offset shown

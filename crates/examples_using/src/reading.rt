@@ -1,4 +1,4 @@
-//! Reading a text, and what to say if it is refused.
+//! Reading a text, and what to say if it is rejected.
 ghost use Rattle.std.specs.Prelude.{◌∷◌, [], IfOk, IfSome, string_bytes};
 ghost use Rattle.souper_graph.specs.View.{view_left_hand_side};
 ghost use Rattle.souper_graph.specs.Syntax.Spelling.{TextSpells, left_hand_side};
@@ -8,7 +8,7 @@ use souper_ir::ast::LeftHandSide;
 use souper_ir::parse::{ParseError, ParseErrorKind, parse_left_hand_sides_str};
 use std::alloc::{AllocError, Global};
 
-/// The number of left-hand sides in the text, or where and why it is refused.
+/// The number of left-hand sides in the text, or where and why it is rejected.
 pub fn report(alloc: Global, source: &str) -> Result<String, AllocError>
     ensures { IfOk result (λ text. IsReport source.now (string_bytes text)) }
 {

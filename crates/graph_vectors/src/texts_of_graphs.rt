@@ -107,7 +107,7 @@ fn unneeded_statements_are_neither_printed_nor_judged(rt: HostRuntime) {
     item_is(&rt, rt.alloc(), item, "%x = var\ninfer %x\n", true);
 }
 
-// What a refused call leaves of the text that it appends to, and its error.
+// What a rejected call leaves of the text that it appends to, and its error.
 fn refused_append(
     rt: &impl Abort,
     alloc: Global,

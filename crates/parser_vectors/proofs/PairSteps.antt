@@ -1,4 +1,4 @@
--- A pair is parsed constant by constant: both are taken, or one is refused.
+-- A pair is parsed constant by constant: both are taken, or one is rejected.
 use Rattle.souper_errors.specs.declared.error.ParseError.{ParseError}
 use Rattle.souper_graph.specs.declared.ast.operands.Constant.{Constant}
 use Rattle.souper_ir.specs.Parsing.{Parsing}

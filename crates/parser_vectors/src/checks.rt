@@ -12,7 +12,7 @@ pub fn is_text(rt: &impl Abort, text: String, want: &str) {
     equal(rt, text.as_str(), want);
 }
 
-// The error is a refusal at the offset, with the message and without a place.
+// The error is a parse error at the offset, with the message and without a place.
 pub fn reports(
     rt: &impl Abort,
     alloc: Global,
@@ -41,7 +41,7 @@ pub fn reports(
     );
 }
 
-// The source begins with no value: the parser refuses it so.
+// The source begins with no value: the parser rejects it so.
 pub fn refuses<P: Parse + Drop>(
     rt: &impl Abort,
     alloc: Global,
@@ -52,7 +52,7 @@ pub fn refuses<P: Parse + Drop>(
     refuses_next::<P>(rt, alloc, &mut Parser::new(alloc, source), offset, message);
 }
 
-// The parser refuses what comes next so, and then stays failed at the same offset.
+// The parser rejects what comes next so, and then stays failed at the same offset.
 pub fn refuses_next<P: Parse + Drop>(
     rt: &impl Abort,
     alloc: Global,
@@ -75,7 +75,7 @@ pub fn has_failed<P: Parse + Drop>(
     reports(rt, alloc, P::parse(parser).err(), offset, message);
 }
 
-// A look ahead is refused so.
+// A look ahead is rejected so.
 pub fn refuses_to_peek<P: Peek>(
     rt: &impl Abort,
     alloc: Global,

@@ -314,7 +314,7 @@ fn peek_takes_no_token(rt: HostRuntime) {
     }
 }
 
-// A look ahead at a lexical fault is refused, and the parser has failed.
+// A look ahead at a lexical fault is rejected, and the parser has failed.
 fn fault_is_seen<P: Peek + Drop>(rt: &impl Abort, alloc: Global) {
     let mut parser = Parser::new(alloc, "%");
     refuses_to_peek::<P>(rt, alloc, &mut parser, 0, "expected value name");

@@ -58,7 +58,7 @@ None, None, None, None, None, None, None, None, None, None, None, None, None, No
 None, None, None, None, None, None, None, None, None, None, None, None, None, None, None, None, None, None, None, None, None, \
 None] }, failed: Some(Refused(559)) }";
 
-// The parser of the text, whose last line is refused, shows this.
+// The parser of the text, whose last line is rejected, shows this.
 fn shows(rt: &impl Abort, alloc: Global, source: &str, want: &str) {
     let mut parser = Parser::new(alloc, source);
     let refused = LeftHandSide::parse(&mut parser).is_err();

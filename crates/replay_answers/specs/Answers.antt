@@ -6,7 +6,7 @@ use Rattle.souper_format.specs.Kinds.{item_type_of}
 use Rattle.replay_answers.specs.declared.records.Record.{Record}
 use Rattle.replay_answers.specs.Records.{IsTaken}
 
--- the text spells no items if it is refused, and else the result is the canonical texts of the items that it spells
+-- the text spells no items if it is rejected, and else the result is the canonical texts of the items that it spells
 abbrev pub right_of : ItemType → Bool → List ℕ → List ℕ → Type 0
 right_of k true text answer = SpellsNone k text
 right_of k false text answer = IsFormatted k text answer

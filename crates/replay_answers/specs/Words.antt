@@ -3,7 +3,7 @@ use Rattle.std.specs.Prelude.{◌≡◌, ℕ, List, ◌∷◌, ◌++◌, Bool, t
 use Rattle.souper_format.specs.declared.command.Kind.{Kind}
 use Rattle.souper_format.specs.Commands.{kind_of_word}
 
--- status 1 means that the text is refused, 0 that it is not
+-- status 1 means that the text is rejected, 0 that it is not
 abbrev pub is_refused_by_word : List ℕ → Option Bool
 is_refused_by_word word =
     if bytes_eq word (codes "0") then Some false else (

@@ -11,7 +11,7 @@ pub struct Record<'a> {
     /// Which items the text is read as.
     pub kind: Kind,
 
-    /// Whether the text is refused: then the result is the error, else the canonical texts.
+    /// Whether the text is rejected: then the result is the error, else the canonical texts.
     pub is_refused: bool,
 
     /// The text.
@@ -30,7 +30,7 @@ struct Head {
     answer_len: usize,
 }
 
-// Whether the status means that the text is refused.
+// Whether the status means that the text is rejected.
 fn read_status(word: &str) -> Option<bool>
     ensures { result ≡ is_refused_by_word word.now }
 {

@@ -56,7 +56,7 @@ fn message_of(shown: &str) -> Option<&str> {
     Some(message)
 }
 
-// True if the records of the text are the stored texts, or it is refused with the stored message. A stored error has the place that
+// True if the records of the text are the stored texts, or it is rejected with the stored message. A stored error has the place that
 // `ParseError` shows, a stream's error its location.
 fn is_as_stored(alloc: Global, stored: &Record<'_>) -> io::Result<bool> {
     let made = match stored.kind {

@@ -25,7 +25,7 @@ use std::alloc::Global;
 /// The kind is 0 for left-hand sides, 1 for right-hand sides and 2 for replacements. The status is
 ///
 /// - 0, done: `out` begins with the canonical texts, which have `length` bytes.
-/// - 1, refused: the text spells no list of such items. `out` begins with what the error shows, which has `length`
+/// - 1, rejected: the text spells no list of such items. `out` begins with what the error shows, which has `length`
 ///   bytes, and `offset`, `line` and `column` are the numbers of its place.
 /// - 2: the kind is no kind.
 /// - 3: memory ran out.
@@ -175,7 +175,7 @@ pub extern "C" fn souper_flaw(alloc: Global, kind: u32, code: &[u8]) -> SouperFl
 ///
 /// - 0, yes.
 /// - 6, no: the text spells such items, and their canonical texts are other bytes.
-/// - 1, refused: the text spells no list of such items; `offset`, `line` and `column` locate the refusal.
+/// - 1, rejected: the text spells no list of such items; `offset`, `line` and `column` locate the parse error.
 ///
 /// With these three `length` is the number of bytes that [`souper_format`] would write.
 #[unsafe(no_mangle)]
@@ -196,8 +196,8 @@ pub extern "C" fn souper_check(alloc: Global, kind: u32, text: &[u8]) -> SouperO
 
 /// Where `text` is at fault: unlike the place that an outcome has, where the token at fault begins, or where the text ends.
 ///
-/// The kinds are as for [`souper_format`]. The status is 0 if the text spells items of the kind, and 1 if it is refused, with its location.
-/// Else it is 2, 3 or 4, as for [`souper_format`].
+/// The kinds are as for [`souper_format`]. The status is 0 if the text spells items of the kind, and 1 if it is rejected, with its
+/// location. Else it is 2, 3 or 4, as for [`souper_format`].
 #[unsafe(no_mangle)]
 pub extern "C" fn souper_locate(alloc: Global, kind: u32, text: &[u8]) -> SouperLocation
     ensures known { result.status ≤ 4 }
@@ -218,8 +218,8 @@ pub extern "C" fn souper_locate(alloc: Global, kind: u32, text: &[u8]) -> Souper
 ///
 /// - 0, yes.
 /// - 6, no.
-/// - 1, refused: the text of number `input`, 0 or 1, spells no list of such items; `offset`, `line` and `column`
-///   locate its refusal, and `length` is the number of bytes that [`souper_format`] would write for it.
+/// - 1, rejected: the text of number `input`, 0 or 1, spells no list of such items; `offset`, `line` and `column`
+///   locate its parse error, and `length` is the number of bytes that [`souper_format`] would write for it.
 /// - 4: the text of number `input` is not UTF-8.
 ///
 /// The second text is looked at after the first was read: if the first spells items and the second is not UTF-8, the status is
@@ -292,8 +292,8 @@ pub extern "C" fn souper_first_segment(kind: u32, text: &[u8]) -> SouperOutcome
 /// `queries`, in the order in which they are in `store` first. A left-hand side without an answer has the byte 0 alone. The status is
 ///
 /// - 0, done: `out` begins with these texts and bytes, of which there are `length`.
-/// - 1, refused: `store`, of number `input` 0, spells no list of replacements, or `queries`, of number 1, no list of left-hand sides. `out`
-///   begins with what the error shows, which has `length` bytes, and `offset`, `line` and `column` are the numbers of its place.
+/// - 1, rejected: `store`, of number `input` 0, spells no list of replacements, or `queries`, of number 1, no list of left-hand sides.
+///   `out` begins with what the error shows, which has `length` bytes, and `offset`, `line` and `column` are the numbers of its place.
 /// - 3: memory ran out.
 /// - 4: the text of number `input` is not UTF-8.
 /// - 5: `out` is shorter than what status 0 or 1 would write to it, which has `length` bytes.

@@ -1,4 +1,4 @@
--- What a failure says of a text that a parser refused.
+-- What a failure says of a text that a parser rejected.
 use Rattle.std.proofs.Common.{◌≡◌, ◌⊎◌, ℕ, ◌≤◌, List, [], Some, None, length, sym, ◌∙◌, subst, ap, refl, inl, inr, ◌<◌, arith}
 use Rattle.std.specs.Prelude.{string_bytes, IsSomeAnd}
 use Rattle.std.proofs.lemmas.Bool.{cases_lt}
@@ -16,7 +16,7 @@ use Rattle.souper_calls.specs.declared.inputs.Refusal.{Refusal}
 use Rattle.souper_calls.specs.declared.inputs.Failure.{Failure}
 use Rattle.souper_calls.specs.declared.inputs.Failure.TheVariants.{NoKind, NotUtf8, OutOfMemory, Refused}
 
--- a refusal of the source, as the parser returns it
+-- a parse error of the source, as the parser returns it
 abbrev IsRefusal : ItemType → List ℕ → ParseError → Type 0
 IsRefusal k source e = (offset : ℕ) × (offset_of e ≡ Some offset) × (offset ≤ length source) × SpellsNone k source
     × ShowsPlace None source offset e × HasLocation source e
@@ -37,7 +37,7 @@ by_numbers k source e offset line column shown (found, at, within, none, p, loca
           (p.message, p.text, p.is_place, some_is (sym is_shown ∙ p.shown_is)))),
     )
 
--- what the failure for an error says is so of the source that the parser refused
+-- what the failure for an error says is so of the source that the parser rejected
 pub of_error : (number : ℕ) (k : ItemType) (source : List ℕ) (e : ParseError) (f : Failure)
     → type_of_number number ≡ Some k → IsStrError k None source e → IsFailureOf e f → IsFailure number source f
 of_error number k source e (Refused r) is_kind is (kind, offset, line, column, shown) =
@@ -54,7 +54,7 @@ abbrev Wrote : List ℕ → List ℕ → List ℕ → SouperOutcome → SouperOu
 Wrote old new shown given o = (length shown ≤ length old → (o ≡ given) × FillsStart old new shown)
     × (length old < length shown → (o ≡ short_outcome (length shown)) × (new ≡ old))
 
--- a buffer that lacks room for a refusal
+-- a buffer that lacks room for a parse error
 pub refusal_is_short : (gives : ℕ → List ℕ → List ℕ → Type 0) (number : ℕ) (source old new : List ℕ) (r : Refusal) (given o : SouperOutcome) → IsFailure number source (Refused r)
     → Wrote old new (string_bytes r.shown) given o → given.status ≡ 1 → o.status ≡ 5 → IsShortFor gives number source o old
 refusal_is_short gives number source old new r given o is (fits, lacks) is_given is_short =
@@ -64,7 +64,7 @@ refusal_is_short gives number source old new r given o is (fits, lacks) is_given
       | inr l ↦ (let clash : 1 ≡ 5 = sym is_given ∙ (sym (ap (λ (o : SouperOutcome). o.status) (fits l).0) ∙ is_short) in absurd (omega (arith, clash)))
     ]
 
--- a refusal that was written
+-- a parse error that was written
 pub refusal_is_written : (number : ℕ) (source old new : List ℕ) (r : Refusal) (given o : SouperOutcome) → IsFailure number source (Refused r)
     → Wrote old new (string_bytes r.shown) given o → given ≡ outcome_of (Refused r) 0 → o.status ≡ 1 → WritesRefusal number source o old new
 refusal_is_written number source old new r given o is (fits, lacks) is_given is_refused =
@@ -82,7 +82,7 @@ bytes_are_written old new bytes given o (fits, lacks) is_given is_done =
       | inr l ↦ (ap (λ (o : SouperOutcome). o.length) (fits l).0 ∙ is_given, (fits l).1)
     ]
 
--- a refusal that was written has a place, and a buffer that lacks room for it has none
+-- a parse error that was written has a place, and a buffer that lacks room for it has none
 pub refusal_has_place : (old new : List ℕ) (r : Refusal) (given o : SouperOutcome) → Wrote old new (string_bytes r.shown) given o → given.status ≡ 1 → (o.status ≡ 1) ⊎ HasNoPlace o
 refusal_has_place old new r given o (fits, lacks) is = elim (cases_lt (length old) (length (string_bytes r.shown))) [
   | inl small ↦ inr (subst HasNoPlace (sym (lacks small).0) (refl, refl, refl))

@@ -1,4 +1,4 @@
--- What a location says of a text that a parser refused.
+-- What a location says of a text that a parser rejected.
 use Rattle.std.proofs.Common.{◌≡◌, ℕ, ◌+◌, ◌≤◌, List, ◌++◌, Option, None, Some, Bool, true, false, length, length-append, sym, ◌∙◌, subst, ap, refl, arith}
 use Rattle.std.specs.Prelude.{string_bytes, IsSomeAnd}
 use Rattle.std.specs.Int.{from_bool}
@@ -27,7 +27,7 @@ abbrev IsRefusal : ItemType → List ℕ → ParseError → Type 0
 IsRefusal k source e = (offset : ℕ) × (offset_of e ≡ Some offset) × (offset ≤ length source) × SpellsNone k source
     × ShowsPlace None source offset e × HasLocation source e
 
--- if a parser refused the text, its reading stops
+-- if a parser rejected the text, its reading stops
 abbrev Stopped : ItemType → List ℕ → ParseError → Type 0
 Stopped k source e = kind_of e ≡ Parse → TextStops k source (at_end_of e)
 

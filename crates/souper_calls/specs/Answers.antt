@@ -38,7 +38,7 @@ WritesAnswerGroups store queries o old new = (bytes : List ℕ) × AnswersTo sto
 abbrev pub OfStoreOrQueries : List ℕ → List ℕ → SouperOutcome → (ℕ → List ℕ → Type 0) → Type 0
 OfStoreOrQueries store queries o fact = ((o.input ≡ 0) × fact 2 store) ⊎ ((o.input ≡ 1) × SpellsSome 2 store × fact 0 queries)
 
--- one of the texts is refused, and its refusal was written to the buffer
+-- one of the texts is rejected, and its parse error was written to the buffer
 abbrev pub WritesRefusalOfOne : List ℕ → List ℕ → SouperOutcome → List ℕ → List ℕ → Type 0
 WritesRefusalOfOne store queries o old new = OfStoreOrQueries store queries o (λ kind source. WritesRefusal kind source o old new)
 
@@ -46,11 +46,11 @@ WritesRefusalOfOne store queries o old new = OfStoreOrQueries store queries o (�
 abbrev pub IsNoTextOfOne : List ℕ → List ℕ → SouperOutcome → Type 0
 IsNoTextOfOne store queries o = OfStoreOrQueries store queries o (λ kind source. ¬ (IsUtf8 source))
 
--- the bytes show that the source is refused
+-- the bytes show that the source is rejected
 abbrev pub ShowRefusal : ℕ → List ℕ → List ℕ → Type 0
 ShowRefusal kind source bytes = (offset : ℕ) × (line : ℕ) × (column : ℕ) × IsRefusedAt kind source offset line column bytes
 
--- the bytes are the output for the texts: the answers, or a refusal of the store, or after it spelled replacements of the queries
+-- the bytes are the output for the texts: the answers, or a parse error of the store, or after it spelled replacements of the queries
 abbrev pub IsFindOutput : List ℕ → List ℕ → List ℕ → Type 0
 IsFindOutput store queries bytes = AnswersTo store queries bytes ⊎ ShowRefusal 2 store bytes ⊎ (SpellsSome 2 store × ShowRefusal 0 queries bytes)
 

@@ -45,7 +45,7 @@ outcome_of NotUtf8 input = record { status = 4; input = input; length = 0; offse
 outcome_of (Refused r) input =
     record { status = 1; input = input; length = length (string_bytes r.shown); offset = r.offset; line = r.line; column = r.column }
 
--- the text that a failure shows: of a refusal
+-- the text that a failure shows: of a parse error
 abbrev pub shown_of : Failure → List ℕ
 shown_of (Refused r) = string_bytes r.shown
 shown_of _ = []

@@ -25,12 +25,12 @@ FormatsTo kind source text = OfType kind (λ k. IsFormatted k source text)
 abbrev pub CodesTo : ℕ → List ℕ → List ℕ → Type 0
 CodesTo kind source code = OfType kind (λ k. IsCodeOfText k source code)
 
--- the source spells no items of the kind; its refusal has that place, and the text shows it
+-- the source spells no items of the kind; its parse error has that place, and the text shows it
 abbrev pub IsRefusedAt : ℕ → List ℕ → ℕ → ℕ → ℕ → List ℕ → Type 0
 IsRefusedAt kind source offset line column shown = OfType kind (λ k.
     SpellsNone k source × (offset ≤ length source) × IsRefusalTextAt None source offset line column shown)
 
--- the source spells no items of the kind; the outcome has the place of the refusal, which the text shows, and its length
+-- the source spells no items of the kind; the outcome has the place of the parse error, which the text shows, and its length
 abbrev pub IsRefused : ℕ → List ℕ → SouperOutcome → List ℕ → Type 0
 IsRefused kind source o shown = IsRefusedAt kind source o.offset o.line o.column shown × (o.length ≡ length shown)
 
@@ -38,7 +38,7 @@ IsRefused kind source o shown = IsRefusedAt kind source o.offset o.line o.column
 abbrev pub Refuses : ℕ → List ℕ → SouperOutcome → Type 0
 Refuses kind source o = (shown : List ℕ) × IsRefused kind source o shown
 
--- the outcome has no place of a refusal
+-- the outcome has no place of a parse error
 abbrev pub HasNoPlace : SouperOutcome → Type 0
 HasNoPlace o = (o.offset ≡ 0) × (o.line ≡ 0) × (o.column ≡ 0)
 
@@ -56,11 +56,11 @@ abbrev pub WritesCode : ℕ → List ℕ → SouperOutcome → List ℕ → List
 WritesCode kind source o old new =
     (code : List ℕ) × CodesTo kind source code × (o.length ≡ length code) × FillsStart old new code
 
--- the refusal was written to the buffer
+-- the parse error was written to the buffer
 abbrev pub WritesRefusal : ℕ → List ℕ → SouperOutcome → List ℕ → List ℕ → Type 0
 WritesRefusal kind source o old new = (shown : List ℕ) × IsRefused kind source o shown × FillsStart old new shown
 
--- the bytes are the source's output: what a call gives for items, or a refusal
+-- the bytes are the source's output: what a call gives for items, or a parse error
 abbrev pub IsOutputOf : (ℕ → List ℕ → List ℕ → Type 0) → ℕ → List ℕ → List ℕ → Type 0
 IsOutputOf gives kind source bytes =
     gives kind source bytes ⊎ ((offset : ℕ) × (line : ℕ) × (column : ℕ) × IsRefusedAt kind source offset line column bytes)
@@ -121,7 +121,7 @@ SpellsSome kind source = OfType kind (λ k. (xs : List Item) × TextSpells k sou
 abbrev pub OfInput : ℕ → List ℕ → List ℕ → SouperOutcome → (List ℕ → Type 0) → Type 0
 OfInput kind a b o fact = ((o.input ≡ 0) × fact a) ⊎ ((o.input ≡ 1) × SpellsSome kind a × fact b)
 
--- one of the inputs is refused
+-- one of the inputs is rejected
 abbrev pub RefusesInput : ℕ → List ℕ → List ℕ → SouperOutcome → Type 0
 RefusesInput kind a b o = OfInput kind a b o (λ source. Refuses kind source o)
 

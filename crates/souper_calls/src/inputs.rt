@@ -18,7 +18,7 @@ use souper_ir::parse::ParseError;
 use std::alloc::Global;
 use std::str;
 
-/// Where a text is refused, and the text that shows it.
+/// Where a text is rejected, and the text that shows it.
 #[derive(Drop)]
 pub(crate) struct Refusal {
     pub(crate) offset: usize,
@@ -59,7 +59,7 @@ impl Failure {
         }
     }
 
-    /// The text that shows a refusal; of another failure none.
+    /// The text that shows a parse error; of another failure none.
     pub(crate) fn shown(&self) -> &str
         ensures { result.now ≡ shown_of self.now }
     {

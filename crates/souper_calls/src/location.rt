@@ -16,7 +16,7 @@ use std::alloc::Global;
 #[repr(C)]
 #[derive(Clone, Copy, Debug, PartialEq, Eq)]
 pub struct SouperLocation {
-    /// 0 the text spells items; 1 refused; 2 no kind; 3 out of memory; 4 not UTF-8.
+    /// 0 the text spells items; 1 rejected; 2 no kind; 3 out of memory; 4 not UTF-8.
     pub status: u32,
 
     /// 1 if the text ended where more is wanted, else 0.

@@ -35,17 +35,17 @@ pub(crate) const NO_FLAGS: u32 = 9;
 #[repr(C)]
 #[derive(Clone, Copy, Debug, PartialEq, Eq)]
 pub struct SouperOutcome {
-    /// 0 done, or yes; 1 refused; 2 no kind; 3 out of memory; 4 not UTF-8; 5 short buffer; 6 no; 7 no code; 8 not well formed; 9 no flags.
+    /// 0 done, or yes; 1 rejected; 2 no kind; 3 out of memory; 4 not UTF-8; 5 short buffer; 6 no; 7 no code; 8 not well formed; 9 no flags.
     pub status: u32,
 
-    /// Which text was refused or is not UTF-8: 0 for the first, 1 for the second.
+    /// Which text was rejected or is not UTF-8: 0 for the first, 1 for the second.
     pub input: u32,
 
     /// The number of bytes of what was written, or of what a buffer must have room for; with status 7 or 8, how many items are
     /// before the one that the status is about.
     pub length: usize,
 
-    /// Where the text was refused: how many bytes were read; with status 7 or 8, how many bytes are before the code of that item.
+    /// Where the text was rejected: how many bytes were read; with status 7 or 8, how many bytes are before the code of that item.
     pub offset: usize,
 
     /// The line of the last of these bytes, or of the first of the text if there is none; from 1.

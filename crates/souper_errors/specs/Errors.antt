@@ -34,7 +34,7 @@ kind_of_cause MemoryCause = Memory
 abbrev pub kind_of : ParseError → ParseErrorKind
 kind_of e = kind_of_cause e.cause
 
--- the offset of a refusal
+-- the offset of a parse error
 abbrev pub offset_of_cause : Cause → Option ℕ
 offset_of_cause (ParseCause refusal) = Some refusal.value.offset
 offset_of_cause _ = None
@@ -43,7 +43,7 @@ offset_of_cause _ = None
 abbrev pub offset_of : ParseError → Option ℕ
 offset_of e = offset_of_cause e.cause
 
--- what a refusal says is wrong
+-- what a parse error says is wrong
 abbrev pub message_of_cause : Cause → Option (List ℕ)
 message_of_cause (ParseCause refusal) = Some (string_bytes refusal.value.message)
 message_of_cause _ = None
@@ -70,7 +70,7 @@ at_end_of_cause _ = false
 abbrev pub at_end_of : ParseError → Bool
 at_end_of e = at_end_of_cause e.cause
 
--- the location of a refusal, if it was given one
+-- the location of a parse error, if it was given one
 abbrev pub location_of_cause : Cause → Option Location
 location_of_cause (ParseCause refusal) = option_map (λ (places : Places). places.location) refusal.value.places
 location_of_cause _ = None
@@ -79,7 +79,7 @@ location_of_cause _ = None
 abbrev pub location_of : ParseError → Option Location
 location_of e = location_of_cause e.cause
 
--- the place of a refusal, if it was given one
+-- the place of a parse error, if it was given one
 abbrev pub place_of_cause : Cause → Option Place
 place_of_cause (ParseCause refusal) = option_map (λ (places : Places). places.place) refusal.value.places
 place_of_cause _ = None
@@ -105,16 +105,16 @@ abbrev pub shown_at_location : Place → Location → List ℕ → List ℕ
 shown_at_location place location message =
     shown_refusal (file_or_unknown (option_map string_bytes place.file)) location.line location.column (string_bytes location.text) message
 
--- the text that shows a refusal, with its place or without
+-- the text that shows a parse error, with its place or without
 abbrev pub shown_by_place : Option Places → ℕ → List ℕ → List ℕ
 shown_by_place None offset message = direct_text offset message
 shown_by_place (Some places) offset message = shown_at places.place message
 
--- the text that a refusal shows
+-- the text that a parse error shows
 abbrev pub shown_refusal_of : Refusal → List ℕ
 shown_refusal_of refusal = shown_by_place refusal.places refusal.offset (string_bytes refusal.message)
 
--- the text that shows a refusal at its location, if it has one
+-- the text that shows a parse error at its location, if it has one
 abbrev pub located_by : Option Places → ℕ → List ℕ → List ℕ
 located_by None offset message = direct_text offset message
 located_by (Some places) offset message = shown_at_location places.place places.location message
@@ -122,7 +122,7 @@ located_by (Some places) offset message = shown_at_location places.place places.
 abbrev pub located_refusal_of : Refusal → List ℕ
 located_refusal_of refusal = located_by refusal.places refusal.offset (string_bytes refusal.message)
 
--- the text that a cause shows, with the location of a refusal
+-- the text that a cause shows, with the location of a parse error
 abbrev pub located_cause : Cause → Option (List ℕ)
 located_cause (IoCause fault) = None
 located_cause (ParseCause refusal) = Some (located_refusal_of refusal.value)
@@ -157,12 +157,12 @@ abbrev pub IsPlaceOn : Option (List ℕ) → ℕ → ℕ → List ℕ → Place 
 IsPlaceOn file line column text place =
     (option_map string_bytes place.file ≡ file) × (place.line ≡ line) × (place.column ≡ column) × (string_bytes place.text ≡ text)
 
--- where a source is at fault, if it was refused at that offset or where it ends: the offset, line, column and line text
+-- where a source is at fault, if it was rejected at that offset or where it ends: the offset, line, column and line text
 abbrev pub IsLocationIn : List ℕ → ℕ → Bool → Location → Type 0
 IsLocationIn source offset at_end location =
     AtFault source offset at_end location.offset × IsPlace source (location.offset + 1) location.line location.column (string_bytes location.text)
 
--- the place and the location of a refusal of the source, which has that file name
+-- the place and the location of a parse error of the source, which has that file name
 abbrev pub ArePlacesIn : Option (List ℕ) → List ℕ → ℕ → Bool → Places → Type 0
 ArePlacesIn file source offset at_end places = IsPlaceIn file source offset places.place × IsLocationIn source offset at_end places.location
 
@@ -186,11 +186,11 @@ pub record ShowsPlace (file : Option (List ℕ)) (source : List ℕ) (offset : �
   pub message_is : message_of e ≡ Some message
   pub shown_is : shown_error e ≡ Some (shown_refusal (file_or_unknown file) line column text message)
 
--- a refusal at that offset of the source, which has and shows its place
+-- a parse error at that offset of the source, which has and shows its place
 abbrev pub IsRefusalAt : Option (List ℕ) → List ℕ → ℕ → ParseError → Type 0
 IsRefusalAt file source offset e = (kind_of e ≡ Parse) × (offset_of e ≡ Some offset) × ShowsPlace file source offset e
 
--- what became of an error that was given its place in the source: a refusal at an offset shows its place there, or
+-- what became of an error that was given its place in the source: a parse error at an offset shows its place there, or
 -- memory ran out for that; any other error is unchanged
 abbrev pub IsLocated : Option (List ℕ) → List ℕ → ParseError → ParseError → Type 0
 IsLocated file source old new = OnKind (kind_of old)
@@ -208,13 +208,13 @@ pub record IsSizeOf (before : Before) (text : List ℕ) : Type 0 where
 abbrev pub HasLocationAfter : Before → List ℕ → ParseError → Type 0
 HasLocationAfter before source e = (text : List ℕ) → IsSizeOf before text → length (text ++ source) + 1 < 2 ^ 64 → HasLocation (text ++ source) e
 
--- what became of a refusal at that offset of the source, before which other lines come: it shows its place in these lines and
+-- what became of a parse error at that offset of the source, before which other lines come: it shows its place in these lines and
 -- the source together, or memory ran out for that. The place of an offset is the place of the byte before it, which must be there.
 abbrev pub IsPlacedAfter : Option (List ℕ) → Before → List ℕ → ℕ → ParseError → Type 0
 IsPlacedAfter file before source offset new = (kind_of new ≡ Memory) ⊎ ((text : List ℕ) → IsSizeOf before text → (0 < offset) ⊎ (text ≡ [])
     → length (text ++ source) + 1 < 2 ^ 64 → IsRefusalAt file (text ++ source) (length text + offset) new)
 
--- what became of an error of a part of a text, which begins at the offset skipped of the source; an error that is no refusal is
+-- what became of an error of a part of a text, which begins at the offset skipped of the source; an error that is no parse error is
 -- unchanged
 abbrev pub IsLocatedAfter : Option (List ℕ) → Before → List ℕ → ℕ → ParseError → ParseError → Type 0
 IsLocatedAfter file before source skipped old new = OnKind (kind_of old)

@@ -1,4 +1,4 @@
--- Definitions. The place of an offset in a source, and the text that shows a refusal there.
+-- Definitions. The place of an offset in a source, and the text that shows a parse error there.
 use Rattle.std.specs.Prelude.{◌≡◌, ℕ, Bool, true, false, ◌+◌, ◌-◌, ◌≤◌, List, [], ◌∷◌, ◌++◌, ◌⊎◌, ◌==◌, length, replicate, count_by, codes, decimal, Option, None, Some}
 use Rattle.std.specs.Str.{IsAsciiWhitespaceFrom}
 
@@ -51,7 +51,7 @@ pub record IsLineFrom (source : List ℕ) (offset number start : ℕ) (rest : Li
 abbrev pub IsEnd : List ℕ → ℕ → Type 0
 IsEnd source at = (at ≤ length source) × IsAsciiWhitespaceFrom source at
 
--- where a source is at fault that is refused at an offset: there, or where it ends
+-- where a source is at fault that is rejected at an offset: there, or where it ends
 abbrev pub AtFault : List ℕ → ℕ → Bool → ℕ → Type 0
 AtFault source offset false at = at ≡ offset
 AtFault source offset true at = IsEnd source at
@@ -64,7 +64,7 @@ OnePlace = (source : List ℕ) (offset l c m d : ℕ) (s t : List ℕ) → IsPla
 abbrev pub right_aligned : ℕ → List ℕ → List ℕ
 right_aligned width text = replicate (width - length text) 32 ++ text
 
--- the four lines of a refusal, with no newline at the end
+-- the four lines of a parse error, with no newline at the end
 abbrev pub shown_refusal : List ℕ → ℕ → ℕ → List ℕ → List ℕ → List ℕ
 shown_refusal file line column text message =
     file ++ codes ":" ++ decimal line ++ codes ":" ++ decimal column ++ codes ": " ++ message ++ codes "\n"
@@ -77,20 +77,20 @@ abbrev pub file_or_unknown : Option (List ℕ) → List ℕ
 file_or_unknown None = codes "unknown"
 file_or_unknown (Some file) = file
 
--- the text shows a refusal at that offset of the source, whose line and column are those numbers
+-- the text shows a parse error at that offset of the source, whose line and column are those numbers
 abbrev pub IsRefusalTextAt : Option (List ℕ) → List ℕ → ℕ → ℕ → ℕ → List ℕ → Type 0
 IsRefusalTextAt file source offset line column shown =
     (message : List ℕ) × (text : List ℕ) × IsPlace source offset line column text
     × (shown ≡ shown_refusal (file_or_unknown file) line column text message)
 
--- the text shows a refusal at that offset of the source
+-- the text shows a parse error at that offset of the source
 abbrev pub IsRefusalText : Option (List ℕ) → List ℕ → ℕ → List ℕ → Type 0
 IsRefusalText file source offset shown = (line : ℕ) × (column : ℕ) × IsRefusalTextAt file source offset line column shown
 
--- the text of a refusal that has no source
+-- the text of a parse error that has no source
 abbrev pub direct_text : ℕ → List ℕ → List ℕ
 direct_text offset message = shown_refusal (codes "unknown") 1 1 (codes "byte offset " ++ decimal offset) message
 
--- the text shows a refusal that has no source
+-- the text shows a parse error that has no source
 abbrev pub IsDirectRefusalText : ℕ → List ℕ → Type 0
 IsDirectRefusalText offset shown = (message : List ℕ) × (shown ≡ direct_text offset message)

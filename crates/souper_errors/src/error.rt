@@ -17,13 +17,13 @@ use std::{fmt, io};
 pub enum ParseErrorKind {
     /// A read failed, or what was read is not UTF-8.
     Io,
-    /// The text was refused.
+    /// The text was rejected.
     Parse,
     /// Memory ran out, for the result or for the error.
     Memory,
 }
 
-/// The error of a parse. It shows why the parse failed and, if a text was refused, where.
+/// The error of a parse. It shows why the parse failed and, if a text was rejected, where.
 #[derive(Drop)]
 pub struct ParseError {
     pub(crate) cause: Cause,
@@ -44,7 +44,7 @@ pub(crate) enum Cause {
     Memory,
 }
 
-/// A refusal of a text. It has no place and no location until its source is known.
+/// A parse error of a text. It has no place and no location until its source is known.
 #[derive(Drop)]
 pub struct Refusal {
     pub(crate) offset: usize,
@@ -55,10 +55,10 @@ pub struct Refusal {
 }
 
 impl ParseError {
-    /// Gives a refusal of a part of a text its place and its location in the whole text.
+    /// Gives a parse error of a part of a text its place and its location in the whole text.
     ///
     /// The part begins at the byte `skipped` of `source` and ends where `source` does, and `before` says what comes before
-    /// `source`. A refusal is then at that place of the whole text, and shows it, unless memory runs out for that. Other errors stay
+    /// `source`. A parse error is then at that place of the whole text, and shows it, unless memory runs out for that. Other errors stay
     /// as they are. The place of an offset is the place of the byte before it: if anything comes before `source`, the offset in
     /// `source` must not be 0.
     pub fn locate_after(
@@ -92,7 +92,7 @@ impl ParseError {
         }
     }
 
-    /// Where the text was refused: `Some` if and only if the kind is `Parse`. An offset is a number of bytes from the
+    /// Where the text was rejected: `Some` if and only if the kind is `Parse`. An offset is a number of bytes from the
     /// text's first byte, from 0 to the text's length.
     pub fn offset(&self) -> Option<usize>
         ensures { result ≡ offset_of self.now }
@@ -103,7 +103,7 @@ impl ParseError {
         }
     }
 
-    /// The line that a refusal shows, counted from 1: `Some` if and only if the source is known, as for the refusals of
+    /// The line that a parse error shows, counted from 1: `Some` if and only if the source is known, as for the parse errors of
     /// the `_str` and `_file` calls.
     pub fn line(&self) -> Option<usize>
         ensures { result ≡ line_of self.now }
@@ -114,7 +114,7 @@ impl ParseError {
         }
     }
 
-    /// The column that a refusal shows, in bytes and counted from 1: `Some` if and only if the source is known.
+    /// The column that a parse error shows, in bytes and counted from 1: `Some` if and only if the source is known.
     pub fn column(&self) -> Option<usize>
         ensures { result ≡ column_of self.now }
     {
@@ -124,7 +124,7 @@ impl ParseError {
         }
     }
 
-    /// What a refusal says is wrong, as the first line that it shows has it: `Some` if and only if the kind is `Parse`.
+    /// What a parse error says is wrong, as the first line that it shows has it: `Some` if and only if the kind is `Parse`.
     pub fn message(&self) -> Option<&str>
         ensures { option_copied result ≡ message_of self.now }
     {
@@ -135,7 +135,7 @@ impl ParseError {
     }
 
     /// Where the text is at fault, which is not where the error shows it to be (see [`ParseError::offset`]): `Some` if and only if
-    /// the source is known, as for the refusals of the `_str` and `_file` calls.
+    /// the source is known, as for the parse errors of the `_str` and `_file` calls.
     pub fn location(&self) -> Option<&Location>
         ensures { option_copied result ≡ location_of self.now }
     {
@@ -153,7 +153,7 @@ impl ParseError {
     }
 
     /// Whether the text ended where a token is wanted, after tokens that fit, or in the word `knownBits`; so a longer text might not
-    /// be refused.
+    /// be rejected.
     ///
     /// A token that the text ends in is read as it stands. So this is false of a text that ends in `%` or `knownBits=`, which are no
     /// tokens, or in the word `inf`, which does not fit, though a longer text could continue each.
@@ -188,7 +188,7 @@ impl ParseError {
     }
 }
 
-/// Gives a refusal its place and its location in the source.
+/// Gives a parse error its place and its location in the source.
 pub(crate) fn locate_refusal(
     mut refusal: Box<Refusal>,
     alloc: Global,
@@ -211,7 +211,7 @@ pub(crate) fn locate_refusal(
     }
 }
 
-// Gives a refusal of a part of a text its place and its location in the whole text.
+// Gives a parse error of a part of a text its place and its location in the whole text.
 fn locate_after(
     mut refusal: Box<Refusal>,
     alloc: Global,
@@ -279,7 +279,7 @@ impl Refusal {
         }
     }
 
-    // Shows the refusal at its location, if it has one.
+    // Shows the parse error at its location, if it has one.
     fn show_location<W: fmt::Write>(&self, f: &mut fmt::Formatter<W>) -> fmt::Result
         ensures { WritesOnOk W.write_str_gives f.old result (located_refusal_of self.now) f.new }
     {
@@ -294,7 +294,7 @@ impl Refusal {
     }
 }
 
-// A refusal as it is shown at its location.
+// A parse error as it is shown at its location.
 #[derive(Clone, Copy)]
 struct AtLocation<'a> {
     refusal: &'a Refusal,

@@ -38,7 +38,7 @@ pub struct Location {
 }
 
 impl Location {
-    // The location of a refusal at the offset, whose line is given, or at the end of the source.
+    // The location of a parse error at the offset, whose line is given, or at the end of the source.
     fn new(
         alloc: Global,
         source: &str,
@@ -103,7 +103,7 @@ fn next_of<'a>(source: &'a str, offset: usize, before: LineOf<'a>) -> Located<'a
     }
 }
 
-/// Where a refusal of a source is: the place that it shows, and where the source is at fault.
+/// Where a parse error of a source is: the place that it shows, and where the source is at fault.
 #[derive(Drop)]
 pub(crate) struct Places {
     pub(crate) place: Place,
@@ -111,7 +111,7 @@ pub(crate) struct Places {
 }
 
 impl Places {
-    /// Those of a refusal at the offset, or at the end of the source, which has that file name.
+    /// Those of a parse error at the offset, or at the end of the source, which has that file name.
     pub(crate) fn new(
         alloc: Global,
         source: &str,

@@ -9,14 +9,14 @@ use std::alloc::{AllocError, Global};
 /// Why a reader failed: a `ParseError` that is no I/O error, small enough for registers.
 #[derive(Drop)]
 pub enum ReadError {
-    /// The text was refused.
+    /// The text was rejected.
     Refused(Box<Refusal>),
     /// Memory ran out, for the result or for the error.
     Memory,
 }
 
 impl ReadError {
-    /// A refusal at an offset, in bytes.
+    /// A parse error at an offset, in bytes.
     pub fn refused(
         alloc: Global,
         offset: usize,
@@ -60,7 +60,7 @@ pub fn widen<T>(read: Result<T, ReadError>) -> Result<T, ParseError>
     }
 }
 
-/// Gives a refusal its place and its location in the source. Other errors stay as they are.
+/// Gives a parse error its place and its location in the source. Other errors stay as they are.
 pub fn locate(error: ParseError, alloc: Global, source: &str, file: Option<&str>) -> ParseError
     requires { IfSome (offset_of error) (λ offset. offset ≤ length source.now) }
     ensures located { IsLocated (option_copied file.entry) source.now error result }

@@ -13,7 +13,7 @@ use Rattle.souper_format.specs.Reading.{ReadAll}
 use Rattle.souper_format.specs.Reporting.{ReportedDisplayLine, ReportedIoError, StoppedByMemory, ErrorReported}
 use Rattle.souper_format.specs.Runs.{Formats, ReportedParseError, IsFormatRun, IsKnownRun}
 
--- a refusal at an offset of the source, as the parser returns it
+-- a parse error at an offset of the source, as the parser returns it
 abbrev pub IsRefusal : ItemType → Option (List ℕ) → List ℕ → ParseError → Type 0
 IsRefusal k file source e = (offset : ℕ) × (offset_of e ≡ Some offset) × (offset ≤ length source) × SpellsNone k source
     × ShowsPlace file source offset e × HasLocation source e

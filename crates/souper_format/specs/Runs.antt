@@ -16,13 +16,13 @@ Formats k source out = (text : List ℕ) × IsFormatted k source text × IsGiven
 abbrev pub Finished : ItemType → Stream → Stream → Stream → Type 0
 Finished k input out err = ((source : List ℕ) × ReadAll input source × Formats k source out) × IsGivenNothing err
 
--- unless the writer has failed, the line of a refusal at an offset of the source, which has that file name, was written
+-- unless the writer has failed, the line of a parse error at an offset of the source, which has that file name, was written
 -- to it
 abbrev pub ReportedParseError : Option (List ℕ) → List ℕ → Stream → Type 0
 ReportedParseError file source err = err.failed ≡ false → (offset : ℕ) × (shown : List ℕ)
     × (offset ≤ length source) × IsRefusalText file source offset shown × IsGiven err (shown ++ codes "\n")
 
--- all that was read is a text that spells no items, nothing was written, and the refusal was reported
+-- all that was read is a text that spells no items, nothing was written, and the parse error was reported
 abbrev pub Refused : ItemType → Stream → Stream → Stream → Type 0
 Refused k input out err =
     ((source : List ℕ) × ReadAll input source × IsUtf8 source × SpellsNone k source × ReportedParseError None source err)

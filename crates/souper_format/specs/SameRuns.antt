@@ -26,12 +26,12 @@ ReadSpells k (Err fault) items = ⊥
 abbrev pub ReadSpellsSome : ItemType → FileRead → Type 0
 ReadSpellsSome k read = (xs : List Item) × ReadSpells k read xs
 
--- the error that a read makes: the refusal of its text, which has that file name, or its fault
+-- the error that a read makes: the parse error of its text, which has that file name, or its fault
 abbrev pub ReadError : ItemType → List ℕ → FileRead → ParseError → Type 0
 ReadError k path (Ok source) e = IsStrError k (Some path) (string_bytes source) e
 ReadError k path (Err fault) e = TellsFault fault e
 
--- the read returned a text that spells no items, and its refusal was reported, which has that file name
+-- the read returned a text that spells no items, and its parse error was reported, which has that file name
 abbrev pub ReadRefused : ItemType → List ℕ → FileRead → Stream → Type 0
 ReadRefused k path (Ok source) err = SpellsNone k (string_bytes source) × ReportedParseError (Some path) (string_bytes source) err
 ReadRefused k path (Err fault) err = ⊥
@@ -51,7 +51,7 @@ Compared k first second out err =
     ((xs : List Item) × (ys : List Item) × ReadSpells k first xs × ReadSpells k second ys × Says (AllZip SameGraph xs ys) out)
     × IsGivenNothing err
 
--- the first read was refused, or the second if the first spells items; nothing was written
+-- the first read was rejected, or the second if the first spells items; nothing was written
 abbrev pub OneRefused : ItemType → List ℕ → List ℕ → FileRead → FileRead → Stream → Stream → Type 0
 OneRefused k a b first second out err =
     (ReadRefused k a first err ⊎ (ReadSpellsSome k first × ReadRefused k b second err))
@@ -71,7 +71,7 @@ IsSameRun k a b first second out err status = OnFmtStatus status
     (OneRefused k a b first second out err)
     (NotCompared k first second out err)
 
--- the first read was refused, or it has failed, or memory ran out, and that was reported; nothing was written
+-- the first read was rejected, or it has failed, or memory ran out, and that was reported; nothing was written
 abbrev pub StoppedAtFirst : ItemType → List ℕ → FileRead → Stream → Stream → ℕ → Type 0
 StoppedAtFirst k a first out err status = OnFmtStatus status
     ⊥

@@ -48,7 +48,7 @@ pub fn line_of_error(alloc: Global, error: &ParseError) -> Result<String, AllocE
     Ok(line)
 }
 
-/// Reports an error of a parser, and returns the status of the program: 1 if it refused a text, else 3.
+/// Reports an error of a parser, and returns the status of the program: 1 if it rejected a text, else 3.
 pub(crate) fn report_error<E: Write>(alloc: Global, error: &ParseError, err: &mut Watched<E>) -> u8
     ensures { ErrorReported (stream E.contents err.old err.new) result error.now }
 {

@@ -67,7 +67,7 @@ pub(crate) fn deliver<W: Write>(text: &str, out: &mut Watched<W>) -> io::Result<
 /// the status of the program.
 ///
 /// - 0: done, and nothing was written to `err`.
-/// - 1: what was read spells no list of such items. Nothing was written to `out`, and to `err` the refusal, which shows
+/// - 1: what was read spells no list of such items. Nothing was written to `out`, and to `err` the parse error, which shows
 ///   no file name, and a newline.
 /// - 3: the reader or `out` failed, what was read is not UTF-8, or memory ran out. A line that says so was written to
 ///   `err`, and nothing to `out`, unless `out` failed.

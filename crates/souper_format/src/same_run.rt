@@ -77,7 +77,7 @@ fn compare<W: Write, E: Write>(
 /// and a newline to `out`, and returns the status of the program. The lists are the same as by [`same`](crate::same::same).
 ///
 /// - 0: done, and nothing was written to `err`.
-/// - 1: the text of a file spells no list of such items. Nothing was written to `out`, and to `err` the refusal, which
+/// - 1: the text of a file spells no list of such items. Nothing was written to `out`, and to `err` the parse error, which
 ///   shows the path, and a newline.
 /// - 3: a read or `out` failed, what was read is not UTF-8, or memory ran out. A line that says so was written to
 ///   `err`, and nothing to `out`, unless `out` failed.

@@ -1,4 +1,4 @@
--- Definitions. What a call returns for a text that it refuses.
+-- Definitions. What a call returns for a text that it rejects.
 use Rattle.std.specs.Prelude.{◌≡◌, ℕ, ◌≤◌, List, length, Option, Some}
 use Rattle.souper_errors.specs.declared.error.ParseError.{ParseError}
 use Rattle.souper_errors.specs.Errors.{kind_of, offset_of, HasLocation, ShowsPlace, OnKind}

@@ -38,7 +38,7 @@ NoFrontOf {V} spells continues faulty ts = (v : V) (front rest : List Lexeme) �
 abbrev pub NoFront : {V : Type 0} → (Scope → V → List Lexeme → Type 0) → (V → Lexeme → Type 0) → Parsing → Type 0
 NoFront spells continues p = NoFrontOf (spells p.scope) continues p.faulty (kinds p.tokens)
 
--- a parser that had not failed refuses only if nothing is spelled
+-- a parser that had not failed rejects only if nothing is spelled
 pub record Refusal {V : Type 0} (spells : Scope → V → List Lexeme → Type 0) (continues : V → Lexeme → Type 0) (e : ParseError) (old new : Parsing) : Type 0 where
   pub failed : Fails e old new
   pub nothing : IfRefused (cause_of e) (old.failed ≡ None → NoFront spells continues old)

@@ -20,7 +20,7 @@ abbrev pub cause_of : ParseError → Option Cause
 cause_of e = cause_by (kind_of e) (offset_of e)
 
 -- The error leaves the parser failed by its cause, which is no I/O error. A parser that had failed fails by the same
--- cause again, or with out of memory. The offset of a refusal is within the text, and it shows that offset and some
+-- cause again, or with out of memory. The offset of a parse error is within the text, and it shows that offset and some
 -- message. If it says that the text ended, all tokens were taken.
 pub record Fails (e : ParseError) (old new : Parsing) : Type 0 where
   pub stays : new.failed ≡ cause_of e
@@ -35,7 +35,7 @@ pub record Fails (e : ParseError) (old new : Parsing) : Type 0 where
 abbrev pub FailsForMemory : ParseError → Parsing → Parsing → Type 0
 FailsForMemory e old new = (cause_of e ≡ Some no_memory) × Fails e old new × (at_end_of e ≡ false)
 
--- the fact, if the parser refused the text
+-- the fact, if the parser rejected the text
 abbrev pub IfRefused : Option Cause → Type 0 → Type 0
 IfRefused (Some (refused o)) fact = fact
 IfRefused (Some no_memory) fact = Unit {0}
@@ -90,7 +90,7 @@ take_in None cut (t ∷ ts) = Ok (t.1, ts)
 unfoldable pub take_at : Parsing → Reads Lexeme
 take_at p = take_in p.failed p.cut p.tokens >>= λ t. Ok (t.0, record p { tokens = t.1 })
 
--- a refusal after steps that changed neither the cause nor the length
+-- a parse error after steps that changed neither the cause nor the length
 pub fails_later : (e : ParseError) (p q r : Parsing) → q.failed ≡ p.failed → q.len ≡ p.len → Fails e q r → Fails e p r
 fails_later e p q r f l h = record {
   stays = h.stays;

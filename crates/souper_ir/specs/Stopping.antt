@@ -1,4 +1,4 @@
--- Definitions. Where the reading of a text stops that is refused, and whether the text ended there.
+-- Definitions. Where the reading of a text stops that is rejected, and whether the text ended there.
 use Rattle.std.specs.Prelude.{◌≡◌, ◌⊎◌, ℕ, Bool, true, false, List, [], ◌++◌, None, Ok, Err, codes}
 use Rattle.souper_graph.specs.Values.{PlainStatement, PlainInfer, Item}
 use Rattle.souper_graph.specs.Syntax.Tokens.{Lexeme}
@@ -99,6 +99,6 @@ pub record TextStops (k : ItemType) (source : List ℕ) (ended : Bool) : Type 0 
   pub live : parser.failed ≡ None
   pub stops : ItemsStop k ended parser
 
--- a refusal by a parser that had not failed: whether the error says that the text ended, the reading does
+-- a parse error by a parser that had not failed: whether the error says that the text ended, the reading does
 abbrev pub Stops : (Bool → Parsing → Type 0) → ParseError → Parsing → Type 0
 Stops reading e p = IfRefused (cause_of e) (p.failed ≡ None → reading (at_end_of e) p)

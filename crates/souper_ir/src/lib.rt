@@ -28,7 +28,7 @@
 //! - [`laws`]: theorems about the definitions that the contracts cite.
 //!
 //! The first and the third are modules of `souper_graph`. A text spells at most one list of items of a type, and a text
-//! that is refused spells none.
+//! that is rejected spells none.
 #![tactic(auto)]
 
 pub use souper_graph::{ast, stringify};

@@ -176,7 +176,7 @@ place_more source more offset line column text some within lines p = under p.bac
       column_is = p.column_is;
     }
 
--- a refusal in lines has the same location with more after them
+-- a parse error in lines has the same location with more after them
 refusal_more : (file : Option (List ℕ)) (source more : List ℕ) (offset : ℕ) (e : ParseError) → 0 < length source → offset ≤ length source → IsLines source → IsRefusalAt file source offset e → IsRefusalAt file (source ++ more) offset e
 refusal_more file source more offset e some within lines h =
     let s = h.2 in (
@@ -195,7 +195,7 @@ refusal_more file source more offset e some within lines h =
       },
     )
 
--- a refusal of the first `len` unparsed bytes, which are lines or the last bytes, was given its location
+-- a parse error of the first `len` unparsed bytes, which are lines or the last bytes, was given its location
 module _ (file : Option (List ℕ)) (done rest after : List ℕ) (b : Buffer) (len offset : ℕ) (shown : ParseError) (p : Buffers done rest b) (some : 0 < len) (fits : len ≤ length rest) (within : offset ≤ len) where
   abbrev text : List ℕ
   text = done ++ take len rest

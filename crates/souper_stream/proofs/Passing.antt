@@ -174,7 +174,7 @@ ends_after k start now ps r some (ls, h) false last more =
         positive zero none = (let bad = ap length (h.some going (no_bytes ls (lines_back (all_lines ps) ls h.lines.are) none)) in absurd (omega arith))
         positive (suc n) some_bytes = omega arith
 
--- ---- a refused part
+-- ---- a rejected part
 
 -- whatever follows the lines read, the whole stream spells no items
 never_after : (k : ItemType) (start now : Option (List ℕ)) (ps : List (List Line)) (part back : List Line) (b : Buffer) (open_line : List ℕ) (ended failed : Bool) (pending : ℕ) (scan : Scan) (h : HasRead k start now (ps ++ part ∷ []) back b open_line ended failed pending scan) → SpellsNone k (concat part)

@@ -1,4 +1,4 @@
--- A stream that is read to its end, or up to its first refusal.
+-- A stream that is read to its end, or up to its first parse error.
 use Rattle.std.proofs.Common.{◌≡◌, ◌⊎◌, inl, inr, ℕ, Bool, true, false, List, [], ◌∷◌, ◌++◌, length, Option, refl, sym, ap, ◌∙◌, subst, arith, append_assoc, append-nil, length-append, map}
 use Rattle.std.specs.List.{AllByRecursion}
 use Rattle.std.proofs.lemmas.List.{nil_from_length}
@@ -109,7 +109,7 @@ parts_begin k start now ps r (ls, h) =
     ends [] e = nothing_left r.ended refl e
     ends (x ∷ xs) e = inl (lines_of (all_lines ps) (lines_front (all_lines ps) ls (λ none. (let both = sym e ∙ none in cc)) h.lines.are))
 
--- a text that is refused after parts that spell items begins with these, and with the ones that the refused part begins with
+-- a text that is rejected after parts that spell items begins with these, and with the ones that the rejected part begins with
 pub refusal_begun : {S : Type 0} (k : ItemType) (file start now : Option (List ℕ)) (ps : List (List Line)) (holds : S → S → List Item → Type 0) (old new : S) (q : ItemReader) (e : ParseError) (t : RefusesPart k file start now ps holds old new q e) (items : List Item) → PartsSpell k ps items
     → PrefixSpells k t.read (items ++ t.items)
 refusal_begun k file start now ps holds old new q e t items spelled =
@@ -122,7 +122,7 @@ refusal_begun k file start now ps holds old new q e t items spelled =
     subst (λ (x : List ℕ). PrefixSpells k x (items ++ t.items)) (sym text)
     (prefix_after k done (concat t.part ++ t.after) items t.items whole_lines (parts_spell k ps (t.part ++ ls) items lines cut spelled) (begun_longer k (concat t.part) t.after t.items t.ends t.begun))
 
--- the stream is refused
+-- the stream is rejected
 pub reached_refusal : {S V : Type 0} (k : ItemType) (file : Option (List ℕ)) (before mid after : Option (List ℕ)) (holds : S → S → List Item → Type 0) (keeps : V → V → List Item → Type 0) (first old new : S) (empty full : V) (p q : ItemReader) (e : ParseError) (taken : List Item)
     (r : Reached k before mid holds first old p) (t : RefusesPart k file before after r.parts keeps empty full q e) → (keeps empty full t.items → taken ≡ t.items) → keeps empty empty [] → TakesOver holds taken old new → IsStreamRefused k file before after holds first new e
 reached_refusal k file before mid after holds keeps first old new empty full p q e taken r t are none over =

@@ -100,11 +100,11 @@ pub record ReadsLast (k : ItemType) (bytes : List ℕ) : Type 0 where
 abbrev pub part_of : ItemReader → List ℕ
 part_of r = last_part r.buffer
 
--- the refusal of a part, after the parsed text `done`, has and shows its place in the text read
+-- the parse error of a part, after the parsed text `done`, has and shows its place in the text read
 abbrev pub IsPlacedIn : Option (List ℕ) → List ℕ → List ℕ → List ℕ → ParseError → Type 0
 IsPlacedIn file read done part e = length read + 1 < 2 ^ 64 → (offset : ℕ) × (length done ≤ offset) × (offset ≤ length (done ++ part)) × IsRefusalAt file read offset e
 
--- the refusal of a part, after the parsed text `done`, says where the text read up to the part's end is at fault
+-- the parse error of a part, after the parsed text `done`, says where the text read up to the part's end is at fault
 abbrev pub IsLocatedIn : List ℕ → List ℕ → ParseError → Type 0
 IsLocatedIn done part e = length (done ++ part) + 1 < 2 ^ 64 → HasLocation (done ++ part) e
 
@@ -133,7 +133,8 @@ pub record TakesPart {S : Type 0} (k : ItemType) (start now : Option (List ℕ))
   pub taken : Holds holds items old new
 
 -- The next segment spells no items: whatever follows the text read, the whole stream spells none. The sink took items that the segment
--- begins with. The refusal has and shows its place in the text read, and says where that is at fault, and whether the segment ended there.
+-- begins with. The parse error has and shows its place in the text read, and says where that is at fault, and whether the segment ended
+-- there.
 pub record RefusesPart {S : Type 0} (k : ItemType) (file start now : Option (List ℕ)) (ps : List (List Line)) (holds : S → S → List Item → Type 0) (old new : S) (r : ItemReader) (e : ParseError) : Type 0 where
   pub part : List Line
   pub goes_on : HasParts k start now (ps ++ part ∷ []) r

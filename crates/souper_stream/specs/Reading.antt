@@ -25,8 +25,8 @@ pub record IsStreamTaken {S : Type 0} (k : ItemType) (before after : Option (Lis
 abbrev pub NeverSpells : ItemType → Type 0 → List ℕ → Type 0
 NeverSpells k all read = ((more : List ℕ) → SpellsNone k (read ++ more)) ⊎ (all × SpellsNone k read)
 
--- The text read of a stream is refused: whatever follows, the whole spells no items. The sink took items that it begins with. The error
--- has and shows its place in the text read, and says where the text up to the end of the refused segment is at fault, and whether the
+-- The text read of a stream is rejected: whatever follows, the whole spells no items. The sink took items that it begins with. The error
+-- has and shows its place in the text read, and says where the text up to the end of the rejected segment is at fault, and whether the
 -- segment ended there.
 pub record IsStreamRefused {S : Type 0} (k : ItemType) (file : Option (List ℕ)) (before after : Option (List ℕ)) (holds : S → S → List Item → Type 0) (old new : S) (e : ParseError) : Type 0 where
   pub read : List ℕ

@@ -7,8 +7,8 @@ ghost use Rattle.souper_stream.specs.Segments.{SpellsByParts};
 /// items; and the line after it begins with a statement or last line. That a word is in a comment, that attributes are on a line of their
 /// own, or that several items are on one line plays no part: tokens decide.
 ///
-/// So if [`ItemReader`] refuses no segment, it passes the items of the whole text to the sinks; and if the whole text spells items, no
-/// segment is refused.
+/// So if [`ItemReader`] rejects no segment, it passes the items of the whole text to the sinks; and if the whole text spells items, no
+/// segment is rejected.
 ///
 /// [`ItemReader`]: crate::ItemReader
 #[tactic(auto, using(crate::proofs::SegmentLaws::spells_by_parts))]

@@ -195,7 +195,7 @@ impl ItemReader {
         }
     }
 
-    /// Where the items of the last part begin in the stream, one for each item, in order; of a refused part, the items that it begins
+    /// Where the items of the last part begin in the stream, one for each item, in order; of a rejected part, the items that it begins
     /// with. There are none if they were not asked for ([`with_starts`](ItemReader::with_starts)), and none after the end.
     pub fn starts(&self) -> &[Start]
         ensures { result.now ≡ starts_of_part self.now }
@@ -215,7 +215,7 @@ impl ItemReader {
         ItemReader { is_eager, ..self }
     }
 
-    /// The text of the last part, refused or not. Before the first part and after the end it is empty.
+    /// The text of the last part, rejected or not. Before the first part and after the end it is empty.
     pub fn part(&self) -> &[u8]
         requires { (k : ItemType) × (start : Option (List ℕ)) × (now : Option (List ℕ)) × (ps : List (List Line)) × HasParts k start now ps self.now }
         ensures { result.now ≡ part_of self.now }

@@ -1,4 +1,4 @@
-//! Texts that are refused, each with the offset of the error and what the error shows. The examples of `docs/GRAMMAR.md` are
+//! Texts that are rejected, each with the offset of the error and what the error shows. The examples of `docs/GRAMMAR.md` are
 //! among them, which `tools/grammar-examples` checks.
 
 /// The cases.

@@ -1,4 +1,4 @@
-//! Texts that are refused as streams, each with the number of items that are taken before.
+//! Texts that are rejected as streams, each with the number of items that are taken before.
 
 /// The cases.
 pub const REFUSED_STREAMS: &str = "

@@ -1,4 +1,4 @@
-//! Tests from text to text: items that are read and printed, lists that are the same, refusals, streams, unified diffs.
+//! Tests from text to text: items that are read and printed, lists that are the same, parse errors, streams, unified diffs.
 //!
 //! The values of the tests were worked out by hand from the rules of the language.
 #![tactic(auto)]

@@ -1,4 +1,4 @@
-//! Texts that are refused.
+//! Texts that are rejected.
 mod changed;
 mod cuts;
 mod places;

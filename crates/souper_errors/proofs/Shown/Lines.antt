@@ -124,12 +124,12 @@ padded_right numeral =
     let none : padding - padding ≡ 0 = omega arith in
     rw (whole, none, blanks padding) (simp append-nil)
 
--- the line and the column of a refusal that has no place
+-- the line and the column of a parse error that has no place
 decimal_one : decimal 1 ≡ 49 ∷ []
 unfolding digits
 decimal_one = refl
 
--- the four writes that show a refusal
+-- the four writes that show a parse error
 pub shown_by_writes : {W : Type 0} (took : W → List ℕ → W → Type 0) (f g h i j : Formatter W) (number file text message : List ℕ) (line column counter : ℕ)
     → number ≡ right_aligned 4 (decimal line) → counter - 1 ≡ column - 1
     → HasWritten took f (file ++ (codes ":" ++ (decimal line ++ (codes ":" ++ (decimal column ++ (codes ": " ++ (message ++ (10 ∷ (codes "     |" ++ 10 ∷ []))))))))) g
@@ -140,14 +140,14 @@ pub shown_by_writes : {W : Type 0} (took : W → List ℕ → W → Type 0) (f g
 shown_by_writes took f g h i j number file text message line column counter aligned to first second third fourth =
     put_four took f g h i j _ _ _ _ _ first second third fourth (rw (aligned, to) (simp append_assoc))
 
--- the lines of a refusal, grouped as they are written
+-- the lines of a parse error, grouped as they are written
 shown_parts : (file line column message aligned text caret : List ℕ)
     → file ++ codes ":" ++ line ++ codes ":" ++ column ++ codes ": " ++ message ++ 10 ∷ [] ++ codes "     |" ++ 10 ∷ []
     ++ aligned ++ codes " | " ++ text ++ 10 ∷ [] ++ codes "     | " ++ caret
     ≡ file ++ (codes ":" ++ (line ++ (codes ":" ++ (column ++ (codes ": " ++ (message ++ (10 ∷ (codes "     |" ++ (10 ∷ (aligned ++ (codes " | " ++ (text ++ (10 ∷ (codes "     | " ++ caret))))))))))))))
 shown_parts file line column message aligned text caret = simp append_assoc
 
--- the text written for a refusal that has no place
+-- the text written for a parse error that has no place
 pub direct_is : (offset : ℕ) (message : List ℕ)
     → codes "unknown:1:1: " ++ (message ++ (10 ∷ (codes "     |" ++ (10 ∷ (codes "   1 | byte offset " ++ (decimal offset ++ (10 ∷ codes "     | ^")))))))
     ≡ direct_text offset message

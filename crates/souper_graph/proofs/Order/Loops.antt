@@ -325,7 +325,7 @@ needed_in a g walks before i w n =
     let W : List ℕ → Type 0 = λ z. Needed a.statements z i in
     subst W (walks_are a g walks before w) (subst G (sym w.same_statements) n)
 
--- a refused target is one that the item names
+-- a rejected target is one that the item names
 pub refused_names : (a : Item) (g : List PlainStatement) (walks : List Target) (before k : ℕ) (s s' : List Entry) (m : List Bool) (ids : List ℕ) (turns : ℕ) (e : Entry) (t : Target) (error : TextError) →
     IsWalkedBy a g walks before → Running g (take k walks) (reverse s) m ids turns → s ≡ s' ++ e ∷ [] → e ≡ Trace t → IsFaultAt g t error → IsFaultOf a error
 refused_names a g walks before k s s' m ids turns e t error w r p f fault =

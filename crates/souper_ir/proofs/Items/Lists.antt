@@ -1,4 +1,4 @@
--- Items in sequence: at most one list of them is spelled, and none if the parser refuses.
+-- Items in sequence: at most one list of them is spelled, and none if the parser rejects.
 use Rattle.std.proofs.Common.{◌≡◌, ℕ, Bool, true, false, List, [], ◌∷◌, ◌++◌, Option, None, Err, refl, sym, ◌∙◌, ap, subst, append_assoc}
 use Rattle.std.proofs.lemmas.List.{append-nil}
 use Rattle.std.specs.List.{AllByRecursion}
@@ -165,7 +165,7 @@ pub takes_one : {S : Type 0} (holds : S → S → List Item → Type 0) (vs : Li
 takes_one holds vs v a b c so step = λ first before held.
     subst (holds first c) (append_assoc before vs (v ∷ [])) (step first (before ++ vs) (so first before held))
 
--- ---- what a sink took before a refusal
+-- ---- what a sink took before a parse error
 
 pub taken_first : {S : Type 0} (holds : S → S → List Item → Type 0) (k : ItemType) (xs : List Item) (starts : List ℕ) (kept : List ℕ → Type 0) (f : Option Cause) (p q : Parsing) (old new : S) → (so : ItemsTaken k xs p q) → TakesOver holds xs old new
     → SpellEachFrom k xs starts so.used → kept starts → IfRefused f (TakesFirst holds k kept p old new)

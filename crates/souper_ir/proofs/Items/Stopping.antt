@@ -1,4 +1,4 @@
--- Where the reading of a text stops that is refused.
+-- Where the reading of a text stops that is rejected.
 use Rattle.std.proofs.Common.{◌≡◌, ℕ, Bool, true, false, List, [], ◌∷◌, None, Err, refl, sym, ◌∙◌, ap, subst, inl, inr}
 use Rattle.std.specs.Prelude.{codes, Option, Some}
 use Rattle.souper_graph.specs.Values.{PlainStatement, PlainInfer, Item}

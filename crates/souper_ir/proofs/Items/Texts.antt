@@ -29,7 +29,7 @@ all_spelled k xs bs p h all = (p.tokens, is_text bs p.tokens p.faulty h all.soun
 pub gap_text : (bs : List ℕ) → IsLastGap bs → IsTextOf bs []
 gap_text bs h = (bs, refl, h)
 
--- ---- refusals
+-- ---- parse errors
 
 offset_kind : (c : ErrorCause) (o : ℕ) → offset_of_cause c ≡ Some o → kind_of_cause c ≡ Parse
 offset_kind (ParseCause r) o e = refl
@@ -39,7 +39,7 @@ offset_kind MemoryCause o e = absurd cc
 offset_cause : (e : ParseError) (o : ℕ) → offset_of e ≡ Some o → cause_of e ≡ Some (refused o)
 offset_cause e o at = rw (offset_kind e.cause o at, at) refl
 
--- the text spells no items if the parser refused
+-- the text spells no items if the parser rejected
 none_spelled : (k : ItemType) (bs : List ℕ) (e : ParseError) (p q : Parsing) (o : ℕ) → p.failed ≡ None → ((ts : List (ℕ × Lexeme)) → IsTextOf bs ts → (p.tokens ≡ ts) × (p.faulty ≡ false))
     → ListRefusal k e p q → cause_of e ≡ Some (refused o) → SpellsNone k bs
 none_spelled k bs e p q o live only h cause xs spelled =
@@ -73,7 +73,7 @@ module _ (k : ItemType) (file : Option (List ℕ)) (bs : List ℕ) (e new : Pars
   pub located_answer : IsLocated file bs e new → IsStrError k file bs new
   located_answer l = by_kind (kind_of e) refl l
 
--- ---- what a sink took before a refusal
+-- ---- what a sink took before a parse error
 
 begins_prefix : (ts us : List (ℕ × Lexeme)) (n : ℕ) (bs rest : List ℕ) → Begins n bs (ts ++ us) rest → (mid : List ℕ) × Begins n bs ts mid
 begins_prefix [] us n bs rest h = (bs, refl)

@@ -20,7 +20,7 @@ refused_fails e p q o cause shown bound before after ended l = record {
   len = l;
 }
 
--- a refusal whose cause was set first
+-- a parse error whose cause was set first
 pub fails_first : (e : ParseError) (p q r : Parsing) → p.failed ≡ None → q.len ≡ p.len → Fails e q r → Fails e p r
 fails_first e p q r live l h = record {
   stays = h.stays;

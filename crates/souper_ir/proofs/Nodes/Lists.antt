@@ -64,7 +64,7 @@ module _ {V : Type 0} (spells : Scope → V → List Lexeme → Type 0) (continu
       free_both [] f g = tt
       free_both (t ∷ ts) f g = elim [ inl h ↦ f h | inr h ↦ g h ]
 
-  -- ---- refusals
+  -- ---- parse errors
 
   pub none_if_stuck : (p : Parsing) → Stuck (spells p.scope) continues starts p.faulty (kinds p.tokens) → NoFront list_spells list_goes_on p
   none_if_stuck p k w front rest e n st =

@@ -87,7 +87,7 @@ three (three_operands f) a b c = refl
 pub takes_three : (o : Opcode) (n : ℕ) → n ≡ operand_count o → n ≢ 0 → n ≢ 1 → n ≢ 2 → operand_count o ≡ 3
 takes_three o n e a b c = three (shape_of o) (λ k. a (e ∙ k)) (λ k. b (e ∙ k)) (λ k. c (e ∙ k))
 
--- ---- refusals
+-- ---- parse errors
 
 pub further_fails : (n k : ℕ) (p q r : Parsing) (xs : List Operand) (e : ParseError) → n < k → further_at n p ≡ Ok (xs, q) → q.failed ≡ p.failed → q.len ≡ p.len
     → IfRefused (cause_of e) (next_operand_at q ≡ Err (at_end_of e)) × Fails e q r → IfRefused (cause_of e) (further_at k p ≡ Err (at_end_of e)) × Fails e p r

@@ -47,6 +47,6 @@ module _ {Y : Type 0} {spells : Scope → Y → List Lexeme → Type 0} {continu
     parsed (Ok x) p q h = (is_taken x p q h, tt)
     parsed (Err e) p q h = (tt, is_refused e p q h)
 
--- out of memory refuses no text
+-- out of memory rejects no text
 pub of_memory : (P : Type 0) (e : ParseError) → cause_of e ≡ Some no_memory → IfRefused (cause_of e) P
 of_memory P e h = subst (λ (o : Option Cause). IfRefused o P) (sym h) tt

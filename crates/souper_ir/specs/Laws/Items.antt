@@ -110,7 +110,7 @@ module _ {Y : Type 0} (tail : Scope → Y → List Lexeme → Type 0) (continues
   pub weaker : (s : Scope) (faulty : Bool) (ts : List Lexeme) → StatementsEnd NoStatement s faulty ts → StatementsEnd (NoMore tail continues) s faulty ts
   weaker s faulty ts h = record { members = h.members; front = h.front; rest = h.rest; parts = h.parts; spelled = h.spelled; free = h.free; stuck = inl h.stuck }
 
-  -- the tail is refused after statements
+  -- the tail is rejected after statements
   pub stuck_tail : (new : List PlainStatement) (p q : Parsing) → AllStated new p q → NoFront tail continues q → StatementsEnd (NoMore tail continues) p.scope p.faulty (kinds p.tokens)
   stuck_tail new p q so none =
       ends_in statement_series (NoMore tail continues) new p q so.stated (inr (Free-from_NextStops (λ t. starts_statement t ≡ true) q.faulty (kinds q.tokens) so.quiet, none))

@@ -71,7 +71,7 @@ unread_in starts p None true cut ended [] e live = (refl, refl)
 unread_in starts p None false cut ended [] e live = absurd cc
 unread_in starts p _ _ cut ended _ e live = absurd cc
 
--- a peek is refused at a fault alone
+-- a peek is rejected at a fault alone
 pub unread : (starts : Lexeme → Bool) (p : Parsing) (ended : Bool) → peek_at starts p ≡ Err ended → p.failed ≡ None → (kinds p.tokens ≡ []) × (p.faulty ≡ true)
 unfolding peek_at look_at
 unread starts p ended e live = unread_in starts p p.failed p.faulty p.cut ended p.tokens e live

@@ -44,7 +44,7 @@ module _ {A B C : Type 0} (spells_a : Scope → A → List Lexeme → Type 0) (g
       let there = alone_b s (b_of v) (b_of w) m.suffix n.suffix c d rest m.second n.second (Free-weaker (goes_on_c v) (goes_on_b (b_of v)) c (last v) f) (Free-weaker (goes_on_c w) (goes_on_b (b_of w)) d (last w) g) in
       (m.whole ∙ ap (λ (x : List Lexeme). x ++ m.suffix) here.0 ∙ ap (λ (x : List Lexeme). n.prefix ++ x) there.0 ∙ sym n.whole, here.1, there.1)
 
-  -- ---- refusals
+  -- ---- parse errors
 
   none_first : (p : Parsing) → NoFront spells_a goes_on_a p → NoFront Both goes_on_c p
   none_first p none c front rest e sp st =

@@ -203,7 +203,7 @@ module _ {V : Type 0} (x : Series V) where
       by_used [] e st = absurd st
       by_used (t ∷ used) e st = omega (arith, ap length e, length-append used r.tokens)
 
-  -- ---- refusals
+  -- ---- parse errors
 
   pub ends_in : (next : Scope → Bool → List Lexeme → Type 0) (vs : List V) (p q : Parsing) → Loop vs p q → next q.scope q.faulty (kinds q.tokens) → EndsIn next p
   ends_in next vs p q so k = record {

@@ -345,7 +345,7 @@ fn whole_text<T: WholeItem, S: Sink<T>>(
 ///
 /// The type of the items is [`LeftHandSide`], [`RightHandSide`] or [`Replacement`]. The file name is for the error,
 /// which shows `unknown` without one. An error of the kind `Parse` says that the text spells no list of such items; the
-/// sink then has taken items that the text begins with, those before the one that was refused. The other kind is `Memory`, and
+/// sink then has taken items that the text begins with, those before the one that was rejected. The other kind is `Memory`, and
 /// what the sink holds then is not specified. A text of white space and comments alone has no items.
 pub fn parse_into<T: WholeItem, S: Sink<T>>(
     alloc: Global,
@@ -372,7 +372,7 @@ pub fn parse_into<T: WholeItem, S: Sink<T>>(
 
 /// [`parse_into`] for many short texts, one after the other: the items are read into the memory of items that a sink gave back before
 /// ([`Sink::take_over`]), of this text or of those before it. A memory that is asked for them ([`Memory::with_starts`]) has the offsets of
-/// the items of the text then, or, if it is refused, those of the items before the one that was.
+/// the items of the text then, or, if it is rejected, those of the items before the one that was.
 pub fn parse_with_memory<T: WholeItem, S: Sink<T>>(
     alloc: Global,
     memory: &mut Memory,
@@ -400,7 +400,7 @@ pub fn parse_with_memory<T: WholeItem, S: Sink<T>>(
 /// The items of a text, in order.
 ///
 /// The type of the items is [`LeftHandSide`], [`RightHandSide`] or [`Replacement`]. The file name is for the error, which shows
-/// `unknown` without one. A text that is refused has no items: the error is of the kind `Parse` or `Memory`. A text of white space
+/// `unknown` without one. A text that is rejected has no items: the error is of the kind `Parse` or `Memory`. A text of white space
 /// and comments alone has no items, and never runs out of memory.
 pub fn parse_items<T: WholeItem + Drop>(
     alloc: Global,
@@ -421,7 +421,7 @@ pub fn parse_items<T: WholeItem + Drop>(
 
 /// The left-hand sides of a text, in order.
 ///
-/// The file name is for the error, which shows `unknown` without one. A text that is refused has no items: the error is
+/// The file name is for the error, which shows `unknown` without one. A text that is rejected has no items: the error is
 /// of the kind `Parse` or `Memory`. A text of white space and comments alone has no items, and never runs out of
 /// memory.
 pub fn parse_left_hand_sides_str(
@@ -441,7 +441,7 @@ pub fn parse_left_hand_sides_str(
 
 /// The right-hand sides of a text, in order.
 ///
-/// The file name is for the error, which shows `unknown` without one. A text that is refused has no items: the error is
+/// The file name is for the error, which shows `unknown` without one. A text that is rejected has no items: the error is
 /// of the kind `Parse` or `Memory`. A text of white space and comments alone has no items, and never runs out of
 /// memory.
 pub fn parse_right_hand_sides_str(
@@ -461,7 +461,7 @@ pub fn parse_right_hand_sides_str(
 
 /// The replacements of a text, in order.
 ///
-/// The file name is for the error, which shows `unknown` without one. A text that is refused has no items: the error is
+/// The file name is for the error, which shows `unknown` without one. A text that is rejected has no items: the error is
 /// of the kind `Parse` or `Memory`. A text of white space and comments alone has no items, and never runs out of
 /// memory.
 pub fn parse_replacements_str(

@@ -1,10 +1,10 @@
-//! What a refusal says.
+//! What a parse error says.
 use crate::parse::tokens::Mark;
 use souper_lexer::FaultKind;
 use std::fmt;
 use std::num::IntErrorKind;
 
-/// The message of a refusal.
+/// The message of a parse error.
 #[derive(Clone, Copy)]
 pub(crate) enum Message<'a> {
     Lexical(FaultKind),

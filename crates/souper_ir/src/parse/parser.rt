@@ -48,7 +48,7 @@ enum Failure {
 
 /// A parser of a text, with one token of lookahead.
 ///
-/// After a refusal it stays failed: every later call returns an error at the same offset, or out of memory.
+/// After a parse error it stays failed: every later call returns an error at the same offset, or out of memory.
 #[derive(Drop)]
 pub struct Parser<'a> {
     alloc: Global,
@@ -138,7 +138,7 @@ impl<'a> Parser<'a> {
 }
 
 impl<'a> Parser<'a> {
-    // The refusal at the offset.
+    // The parse error at the offset.
     fn refusal(
         &self,
         offset: usize,
@@ -151,7 +151,7 @@ impl<'a> Parser<'a> {
         ReadError::refused(self.alloc, offset, at_end, text)
     }
 
-    // Fails at the offset, and from now on. If there is no memory for the refusal, it fails with out of memory.
+    // Fails at the offset, and from now on. If there is no memory for the parse error, it fails with out of memory.
     #[cold]
     #[inline(never)]
     fn fail_at(&mut self, offset: usize, at_end: bool, message: Message<'_>) -> ReadError
@@ -185,7 +185,7 @@ impl<'a> Parser<'a> {
         }
     }
 
-    /// Refuses the token last lexed. A parser that has failed fails as before.
+    /// Rejects the token last lexed. A parser that has failed fails as before.
     #[cold]
     #[inline(never)]
     pub(crate) fn refuse(&mut self, message: Message<'_>) -> ReadError
@@ -198,7 +198,7 @@ impl<'a> Parser<'a> {
         }
     }
 
-    /// Refuses the end of the text, where the token last lexed begins.
+    /// Rejects the end of the text, where the token last lexed begins.
     #[cold]
     #[inline(never)]
     pub(crate) fn refuse_end(&mut self, message: Message<'_>) -> ReadError
@@ -210,7 +210,7 @@ impl<'a> Parser<'a> {
         self.fail_at(self.offset, true, message)
     }
 
-    // Refuses what is no token.
+    // Rejects what is no token.
     #[cold]
     #[inline(never)]
     fn refuse_fault(&mut self, fault: Fault) -> ReadError
@@ -279,7 +279,7 @@ impl<'a> Parser<'a> {
         Ok(Some(offset))
     }
 
-    /// The next token, taken. The end of the text is refused.
+    /// The next token, taken. The end of the text is rejected.
     #[inline(always)]
     #[tactic(auto, unfolding(crate::specs::Reading::take_at))]
     pub(crate) fn token(&mut self) -> Read<Token<'a>>
@@ -638,7 +638,7 @@ impl<'a> Parser<'a> {
             failed,
             ..
         } = self;
-        // An item that was refused is dropped too.
+        // An item that was rejected is dropped too.
         let dropped = match dropped {
             None if failed.is_some() && spare.is_used() => Some(statements),
             dropped => dropped,

@@ -113,7 +113,7 @@ pub(crate) fn instruction(parser: &mut Parser<'_>) -> Read<Instruction>
     instruction_of(parser, opcode)
 }
 
-// The word of a right side. The offset of a refusal of the text's end is where the last token begins.
+// The word of a right side. The offset of a parse error of the text's end is where the last token begins.
 #[tactic(auto, unfolding(crate::specs::NodeReadings::rhs_word_at, crate::specs::NodeReadings::accept))]
 fn rhs_word(parser: &mut Parser<'_>) -> Read<RhsWord>
     ensures { Gives (λ w. w) (widened result) (rhs_word_at parser.old) parser.old parser.new }

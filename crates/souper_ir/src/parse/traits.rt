@@ -13,7 +13,7 @@ use crate::parse::parser::{Parser, Result};
 /// An implementor says as what plain data its values are seen, and states the grammar of that data: the tokens that
 /// spell a value in a scope, the tokens that continue it after its spelling, and the scope that it leaves. It owes that
 /// - `parse` takes a spelling of the value that it returns, after which the next token does not continue that value;
-/// - `parse` refuses the text only if no prefix of the remaining tokens is such a spelling of any value, except one
+/// - `parse` rejects the text only if no prefix of the remaining tokens is such a spelling of any value, except one
 ///   right before a lexical fault; it may report out of memory anywhere;
 /// - of any list of tokens at most one prefix is such a spelling, and of one value alone.
 pub trait Parse: Sized {
@@ -55,7 +55,7 @@ pub trait Peek: Parse {
 
     /// Whether the next token starts a value; false at the end of the text. It takes no token.
     ///
-    /// A lexical fault in place of the next token is refused.
+    /// A lexical fault in place of the next token is rejected.
     fn peek<'a>(parser: &mut Parser<'a>) -> Result<bool>
         ensures { Gives (λ b. b) result (peek_at starts parser.old) parser.old parser.new };
 

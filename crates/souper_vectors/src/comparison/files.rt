@@ -103,7 +103,7 @@ fn empty_file_has_no_items(rt: HostRuntime) {
     );
 }
 
-// The left-hand sides of the file at the path are refused.
+// The left-hand sides of the file at the path are rejected.
 fn is_refused<R: Files + AllocGlobal + Abort>(rt: &R, path: &str) {
     let read = parse_left_hand_sides_file(rt, rt.alloc(), path);
     let error = read.err().expect(rt, path);

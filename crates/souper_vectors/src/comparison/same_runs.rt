@@ -79,7 +79,7 @@ fn keeps_status<R: Files + AllocGlobal + Abort>(
     }
 }
 
-// The line of a refusal has 83 bytes, and the line of a failed read begins with 10 known ones.
+// The line of a parse error has 83 bytes, and the line of a failed read begins with 10 known ones.
 #[test]
 fn failed_err_keeps_the_status(rt: HostRuntime) {
     write_files(&rt);

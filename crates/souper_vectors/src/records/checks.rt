@@ -93,7 +93,7 @@ fn first_difference_of_all_parts_is_told(rt: HostRuntime) {
     is_told_between(&rt, rt.alloc(), ("%b = var\ninfer %b;\n\n", "; b\n"), want);
 }
 
-// The refusal is reported in place of the difference.
+// The parse error is reported in place of the difference.
 #[test]
 fn refusal_after_a_difference_is_told(rt: HostRuntime) {
     let want = (1, "a.opt:15002:7: no value named '%y' in scope\n");

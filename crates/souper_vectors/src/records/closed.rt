@@ -38,7 +38,7 @@ impl Write for Pipe {
     }
 }
 
-// The item between the two others is refused.
+// The item between the two others is rejected.
 const SOURCE: &[u8] = b"%x = var\ninfer %x\ninfer %y\n%z = var\ninfer %z\n";
 
 const REFUSAL: &str =

@@ -97,7 +97,7 @@ fn end_is_read_once(rt: HostRuntime) {
     }
 }
 
-// The status of a run that is refused and whose report fails after this number of calls, and whether the report failed.
+// The status of a run that is rejected and whose report fails after this number of calls, and whether the report failed.
 fn failed_report(rt: &impl Abort, alloc: Global, after: usize) -> (u8, bool) {
     let mut reader = BufReader::new(alloc, b"infer %x\n".as_slice()).expect(rt, "memory");
     let mut written = Vec::new(alloc);
@@ -113,7 +113,7 @@ fn failed_report(rt: &impl Abort, alloc: Global, after: usize) -> (u8, bool) {
     (status, err.failed())
 }
 
-// If the report cannot be written, the status still says that the input is refused.
+// If the report cannot be written, the status still says that the input is rejected.
 #[test]
 fn failed_report_leaves_the_status(rt: HostRuntime) {
     for after in 0..4 {

@@ -1,4 +1,4 @@
-//! Streams that are read on after a refusal.
+//! Streams that are read on after a parse error.
 use crate::checks::{Ran, equal, text};
 use crate::faulty::FaultyWriter;
 use crate::records::support::{Command, did, run_over, run_to, runs};
@@ -76,7 +76,7 @@ fn items_around_refused_ones_are_written(rt: HostRuntime) {
     each_text::<LeftHandSide>(&rt, rt.alloc(), REFUSED, (1, KEPT, REPORTED));
 }
 
-// Of a line with several items, those before the refused one are written, and so is the item of the next line.
+// Of a line with several items, those before the rejected one are written, and so is the item of the next line.
 #[test]
 fn items_before_a_refused_one_of_the_line_are_written(rt: HostRuntime) {
     let source = "result 1 result 2 result result\nresult 3\nresult 4";
@@ -150,7 +150,7 @@ fn items_of_the_next_lines_are_written(rt: HostRuntime) {
     equal(&rt, text(&run.err).lines().count(), 12);
 }
 
-// Text that spells items is read as it is without refusals, also if a name and what defines it are on lines of their own.
+// Text that spells items is read as it is without parse errors, also if a name and what defines it are on lines of their own.
 #[test]
 fn items_are_those_of_the_text(rt: HostRuntime) {
     let alloc = rt.alloc();
@@ -166,7 +166,7 @@ fn items_are_those_of_the_text(rt: HostRuntime) {
     each_text::<Replacement>(&rt, alloc, source, (0, want, ""));
 }
 
-// Items of which the one at this index is refused.
+// Items of which the one at this index is rejected.
 fn one_refused(rt: &impl Abort, alloc: Global, bad: usize, count: usize) -> String {
     let mut source = String::new(alloc);
     for index in 0..count {
@@ -218,7 +218,7 @@ fn first_items_are_written_around_a_refused_one(rt: HostRuntime) {
     );
 }
 
-// The refusals come before the line of the bytes that are not UTF-8.
+// The parse errors come before the line of the bytes that are not UTF-8.
 #[test]
 fn fault_is_reported_after_the_refusals(rt: HostRuntime) {
     let source = b"%a = var\ninfer %a\ninfer %b\n%c = var\ninfer %c\n\xff";
@@ -239,7 +239,7 @@ fn fault_is_reported_after_the_refusals(rt: HostRuntime) {
     equal(&rt, found, (2, "%a = var\ninfer %a\n\n", true, true));
 }
 
-// The status of a run that is refused and whose report fails after this number of calls, and whether it failed.
+// The status of a run that is rejected and whose report fails after this number of calls, and whether it failed.
 fn failed_report(rt: &impl Abort, alloc: Global, after: usize) -> (u8, bool) {
     let mut reader = BufReader::new(alloc, b"infer %x\n".as_slice()).expect(rt, "memory");
     let mut written = Vec::new(alloc);

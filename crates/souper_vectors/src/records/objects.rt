@@ -1,4 +1,4 @@
-//! JSON objects of items and of refusals.
+//! JSON objects of items and of parse errors.
 use crate::checks::equal;
 use crate::faulty::FaultyWriter;
 use crate::records::support::{Command, run_to, runs};
@@ -90,7 +90,7 @@ const LINE_REPORTED: &str = r#"a "b"\c.opt:1:26: expected an integer literal
      |                          ^
 "#;
 
-// A refusal comes after the items that its segment begins with.
+// A parse error comes after the items that its segment begins with.
 #[test]
 fn refused_segment_begins_with_items(rt: HostRuntime) {
     let source = "result 1 result 2 result result\nresult 3\nresult 4";

@@ -44,19 +44,19 @@ pub(crate) fn good_ones(rt: &impl Abort, alloc: Global, count: usize) -> String 
     source
 }
 
-// The text, and then an item that is refused and one that would not be.
+// The text, and then an item that is rejected and one that would not be.
 fn with_refused(rt: &impl Abort, alloc: Global, good: &str) -> String {
     format!(in alloc; "{good}%b = foo\ninfer %b\n\n%c = var\ninfer %c\n").expect(rt, good)
 }
 
-// The run wrote the valid items, and reported the refusal at this location.
+// The run wrote the valid items, and reported the parse error at this location.
 fn is_refused(rt: &impl Abort, run: Run, good: &str, place: &str) {
     let shows = text(&run.err).contains("%b = foo\n");
     let found = (run.status, text(&run.out), headed(&run.err, place));
     equal(rt, (found, shows), ((1, good, place), true));
 }
 
-// This number of items is written before the refusal at this location.
+// This number of items is written before the parse error at this location.
 fn writes_before(rt: &impl Abort, alloc: Global, count: usize, place: &str) {
     let good = good_ones(rt, alloc, count);
     let source = with_refused(rt, alloc, good.as_str());

@@ -106,7 +106,7 @@ fn items_of_earlier_streams_count(rt: HostRuntime) {
     let streams = [
         ("%x = var infer %x", 0),
         ("", 0),
-        // What comes before a refusal counts too.
+        // What comes before a parse error counts too.
         ("%y = var\ninfer %y\n%x = var\ninfer %x\n%z\n", 1),
         ("%y = var infer %y %w = var infer %w", 0),
     ];

@@ -31,7 +31,7 @@ fn is(rt: &impl Abort, alloc: Global, item: &LeftHandSide, want: &str, well_form
     is_text(rt, item.to_string(alloc).expect(rt, want), want);
 }
 
-// The text is refused at the offset, and the error shows this.
+// The text is rejected at the offset, and the error shows this.
 fn is_refused(rt: &impl Abort, alloc: Global, text: &str, offset: usize, want: &str) {
     let error = parse_left_hand_sides_str(alloc, text, None).err();
     reports(rt, alloc, error, offset, want, text);

@@ -12,7 +12,7 @@ use text_cases::refused::REFUSED;
 
 const SOURCE: &str = "%a = var\n%b = var\ninfer %b";
 
-// The length of each prefix, the offset at which it is refused, and the message.
+// The length of each prefix, the offset at which it is rejected, and the message.
 const PREFIXES: &str = "1 0 expected value name
 2 1 unexpected EOF
 3 2 unexpected EOF
@@ -78,14 +78,14 @@ fn empty_prefix_and_whole_text_are_read(rt: HostRuntime) {
     equal_in(&rt, (SOURCE.len(), items.len()), (26, 1), SOURCE);
 }
 
-// The text is refused within it.
+// The text is rejected within it.
 fn is_refused_within(rt: &impl Abort, error: &ParseError, text: &str) {
     equal_in(rt, error.kind(), ParseErrorKind::Parse, text);
     let offset = error.offset().expect(rt, text);
     equal_in(rt, offset <= text.len(), true, text);
 }
 
-// Each prefix of the text is read, or refused within it.
+// Each prefix of the text is read, or rejected within it.
 fn cuts_of(rt: &impl Abort, alloc: Global, kind: Kind, text: &str) {
     for len in 0..=text.len() {
         let Some(prefix) = text.get(..len) else {

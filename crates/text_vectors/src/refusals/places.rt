@@ -1,4 +1,4 @@
-//! The places of refusals: the name of the file, lines and columns far away, and errors without a place.
+//! The places of parse errors: the name of the file, lines and columns far away, and errors without a place.
 use crate::checks::equal_in;
 use crate::refusals::reports::{Refusal, is_refused, reports, shows};
 use crate::sources::thousand;
@@ -9,7 +9,7 @@ use std::alloc::{AllocError, Global};
 use std::io;
 use std::process::Abort;
 
-// A left-hand side of this file is refused.
+// A left-hand side of this file is rejected.
 fn is_refused_in(
     rt: &impl Abort,
     alloc: Global,

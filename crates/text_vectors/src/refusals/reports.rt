@@ -1,4 +1,4 @@
-//! Refusals of texts.
+//! Parse errors of texts.
 use crate::cases::{Case, read_cases};
 use crate::checks::{equal_in, is_text_in};
 use souper_format::command::Kind;
@@ -11,7 +11,7 @@ use std::alloc::Global;
 use std::process::Abort;
 use text_cases::refused::REFUSED;
 
-/// A text that is refused, and the error that it gives.
+/// A text that is rejected, and the error that it gives.
 #[derive(Clone, Copy)]
 pub struct Refusal<'a> {
     /// What a failure shows.
@@ -40,7 +40,7 @@ fn has_no_style(rt: &impl Abort, alloc: Global, error: &ParseError, thrice: &str
     is_text_in(rt, shown, thrice, case);
 }
 
-/// The error is a refusal at the offset, shows the text, and has the line and the column that the text has; without a
+/// The error is a parse error at the offset, shows the text, and has the line and the column that the text has; without a
 /// source it shows 1 for both.
 pub fn reports(
     rt: &impl Abort,
@@ -85,7 +85,7 @@ pub fn is_refused(rt: &impl Abort, alloc: Global, file: Option<&str>, refusal: &
     reports(rt, alloc, error, offset, shown, case);
 }
 
-// The refusal of the case. The offset comes after the kind.
+// The parse error of the case. The offset comes after the kind.
 fn refusal_of<'a>(case: &Case<'a>) -> Option<Refusal<'a>> {
     let (_kind, rest) = case.lines.split_once(' ')?;
     let (offset, _name) = rest.split_once(' ')?;

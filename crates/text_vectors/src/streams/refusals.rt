@@ -1,4 +1,4 @@
-//! Refusals of streams: their places are those in the whole text, and the items before them were taken.
+//! Parse errors of streams: their places are those in the whole text, and the items before them were taken.
 use crate::cases::{Case, read_cases};
 use crate::checks::{equal_in, is_text_in};
 use souper_format::command::Kind;
@@ -45,12 +45,12 @@ fn read<T: StreamItem + Drop>(
     (count.items, read.err())
 }
 
-// The place of a refusal: its offset, line and column.
+// The place of a parse error: its offset, line and column.
 fn place_of(error: &ParseError) -> (Option<usize>, Option<usize>, Option<usize>) {
     (error.offset(), error.line(), error.column())
 }
 
-// The errors are refusals with one place, and shown as one text.
+// The errors are parse errors with one place, and shown as one text.
 fn are_same(rt: &impl Abort, alloc: Global, error: ParseError, whole: &ParseError, case: &str) {
     equal_in(rt, error.kind(), ParseErrorKind::Parse, case);
     equal_in(rt, place_of(&error), place_of(whole), case);
@@ -59,7 +59,7 @@ fn are_same(rt: &impl Abort, alloc: Global, error: ParseError, whole: &ParseErro
     is_text_in(rt, shown, want.as_str(), case);
 }
 
-// The stream is refused as the whole text is, after this number of items.
+// The stream is rejected as the whole text is, after this number of items.
 fn is_refused<T: StreamItem + Drop>(
     rt: &impl Abort,
     alloc: Global,
@@ -86,7 +86,7 @@ fn good(kind: Kind) -> &'static str {
     }
 }
 
-// The text is refused after this number of items, also between others.
+// The text is rejected after this number of items, also between others.
 fn is_refused_between<T: StreamItem + Drop>(rt: &impl Abort, alloc: Global, case: &Case<'_>) {
     let items = case.want.parse::<usize>().ok().expect(rt, case.lines);
     is_refused::<T>(rt, alloc, case.text, items, case);
@@ -132,7 +132,7 @@ fn refusal_is_the_one_of_its_segment(rt: HostRuntime) {
     is_refused_in_segment(rt, alloc, source, 19, want);
 }
 
-// The stream is a fault and no refusal.
+// The stream is a fault and no parse error.
 fn is_no_text(rt: &impl Abort, alloc: Global, source: &[u8]) {
     let (_, error) = read::<LeftHandSide>(rt, alloc, source, 1);
     let kind = error.map(|error| error.kind());

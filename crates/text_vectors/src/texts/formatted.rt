@@ -24,7 +24,7 @@ fn items_are_formatted_again(rt: HostRuntime) {
     }
 }
 
-// The source with `count` operands is printed as it is, and that with one less, if there is one, is refused.
+// The source with `count` operands is printed as it is, and that with one less, if there is one, is rejected.
 fn has_operands(rt: &impl Abort, alloc: Global, word: &str, count: usize) {
     let source = applied(rt, alloc, word, count);
     let want = format!(in alloc; "{source}\n\n").expect(rt, "memory");

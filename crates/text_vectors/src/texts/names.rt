@@ -8,14 +8,14 @@ use souper_format::items::read_items;
 use std::alloc::Global;
 use std::process::Abort;
 
-// Whether the definitions are refused with these lines after them.
+// Whether the definitions are rejected with these lines after them.
 fn is_refused(rt: &impl Abort, alloc: Global, definitions: &str, lines: &str) -> bool {
     let source = format!(in alloc; "{definitions}{lines}\n").expect(rt, "memory");
     read_items(alloc, Kind::Lhs, source.as_str(), None).is_err()
 }
 
-// The item is read and printed, with the last block before what its phi takes. One more definition is refused if its name is defined before,
-// and read otherwise; a use of a name that is not defined is refused.
+// The item is read and printed, with the last block before what its phi takes. One more definition is rejected if its name is defined
+// before, and read otherwise; a use of a name that is not defined is rejected.
 fn names_are_found(rt: &impl Abort, alloc: Global, count: u32, words: (&str, &str)) {
     let (start, end) = words;
     let sums = sums(rt, alloc, count, words);
