@@ -2,7 +2,8 @@
  *
  *   - malloc and realloc align a block to each power of two up to 16 that divides its size, as those of the common C libraries
  *     do, and may be called on any threads at once;
- *   - a block is never null, also if an allocation fails; one of size 0 is a block like others.
+ *   - a block is never null, also if an allocation fails; one of size 0 is a block like others;
+ *   - `old_size` of rattle_realloc is the number of bytes in use, which are to be kept. The block may be larger.
  *
  * A heap of your own in its place must keep the same, by one allocator for the three functions. */
 #include <stdbool.h>
