@@ -11,20 +11,13 @@ import os
 import sys
 from collections.abc import Callable
 from pathlib import Path
-from typing import Any
+from typing import Any, NoReturn
 
+from . import _terminal
 from ._errors import Refused
 from ._values import Kind
 
 INVALID, FAILED, INTERRUPTED, NOBODY_READS = 1, 2, 130, 141
-
-# As `souper_items` shows an error at a terminal: what the terminal may obey is another character.
-_VISIBLE = {
-    **{code: 0x2400 + code for code in range(0x20) if code != 0x0A},
-    0x7F: 0x2421,
-    **dict.fromkeys((*range(0x80, 0xA0), *range(0x202A, 0x202F), *range(0x2066, 0x206A)), 0xFFFD),
-}
-
 
 class Failure(Exception):
     """Why a program ends: a message and its status."""
@@ -32,6 +25,16 @@ class Failure(Exception):
     def __init__(self, message: str, status: int = FAILED) -> None:
         super().__init__(message)
         self.status = status
+
+
+class Parser(argparse.ArgumentParser):
+    """A parser of arguments, which it shows at a terminal as the programs show a text."""
+
+    def exit(self, status: int = 0, message: str | None = None) -> NoReturn:
+        sys.stderr.flush()
+        if message:
+            _say(message.removesuffix("\n"))
+        sys.exit(status)
 
 
 def add_kind(parser: argparse.ArgumentParser, default: str | None = None) -> None:
@@ -69,8 +72,10 @@ def run(program: str, main: Callable[[], None]) -> None:
         main()
         sys.stdout.flush()
     except Failure as failure:
-        text = f"{failure}" if failure.status == INVALID else f"{program}: {failure}"
-        _say(text)
+        if failure.status == INVALID:
+            _say(str(failure), _terminal.parse_error)
+        else:
+            _say(f"{program}: {failure}")
         sys.exit(failure.status)
     except MemoryError:
         _say(f"{program}: out of memory")
@@ -91,6 +96,6 @@ def _drop_output() -> None:
     os.dup2(os.open(os.devnull, os.O_WRONLY), sys.stdout.fileno())
 
 
-def _say(text: str) -> None:
-    shown = text.translate(_VISIBLE) if sys.stderr.isatty() else text
+def _say(text: str, at_terminal: Callable[[str], str] = _terminal.message) -> None:
+    shown = at_terminal(text) if sys.stderr.isatty() else text
     sys.stderr.buffer.write(shown.encode("utf-8", "surrogateescape") + b"\n")

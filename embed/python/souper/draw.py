@@ -11,7 +11,6 @@ items are clusters of one picture.
 
 from __future__ import annotations
 
-import argparse
 import shutil
 import subprocess
 import sys
@@ -148,7 +147,7 @@ def _quoted(text: str) -> str:
 
 
 def _main() -> None:
-    parser = argparse.ArgumentParser(
+    parser = _programs.Parser(
         prog="souper.draw",
         description="Draws the graphs of Souper IR: the needed statements and their uses.",
         epilog="Status: 0, done; 1, the text is invalid; 2, usage, I/O, memory, or no dot.",

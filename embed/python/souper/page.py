@@ -10,7 +10,6 @@ made under another name of the host, 403.
 
 from __future__ import annotations
 
-import argparse
 import base64
 import hashlib
 import hmac
@@ -276,7 +275,7 @@ class _Handler(BaseHTTPRequestHandler):
 
 
 def _main() -> None:
-    parser = argparse.ArgumentParser(
+    parser = _programs.Parser(
         prog="souper.page",
         description="Serves a page that shows the canonical text, keys and graph of Souper IR.",
         epilog="It prints the page's address, for a browser on this computer; ^C ends it. "
