@@ -27,6 +27,12 @@ class Failure(Exception):
         self.status = status
 
 
+def name(module: str) -> str:
+    """The name of a program: of its command, if that was called, or of its module."""
+    command = f"souper-{module}"
+    return command if Path(sys.argv[0]).name == command else f"souper.{module}"
+
+
 class Parser(argparse.ArgumentParser):
     """A parser of arguments, which it shows at a terminal as the programs show a text."""
 
@@ -66,8 +72,9 @@ def not_utf8(name: str, error: UnicodeDecodeError) -> Failure:
     return Failure(f"{name}: not UTF-8 at byte {error.start}")
 
 
-def run(program: str, main: Callable[[], None]) -> None:
-    """Runs a program, and ends it with its status."""
+def run(module: str, main: Callable[[], None]) -> None:
+    """Runs the program of a module, and ends it with its status."""
+    program = name(module)
     try:
         main()
         sys.stdout.flush()

@@ -148,7 +148,7 @@ def _quoted(text: str) -> str:
 
 def _main() -> None:
     parser = _programs.Parser(
-        prog="souper.draw",
+        prog=_programs.name("draw"),
         description="Draws the graphs of Souper IR: the needed statements and their uses.",
         epilog="Status: 0, done; 1, the text is invalid; 2, usage, I/O, memory, or no dot.",
     )
@@ -172,5 +172,10 @@ def _main() -> None:
     sys.stdout.buffer.write(drawn.encode())
 
 
+def command() -> None:
+    """Runs the program."""
+    _programs.run("draw", _main)
+
+
 if __name__ == "__main__":
-    _programs.run("souper.draw", _main)
+    command()
