@@ -14,7 +14,7 @@ or ``\\`` where the newline at the end is missing.
 _AROUND = 2
 _MOST_ROWS = 200
 _FIRST_LINES = 10
-_MOST_PAIRS = 250_000
+_MOST_PAIRS = 60_000
 """Of longer texts the first lines that differ are shown, and no more is compared."""
 
 
