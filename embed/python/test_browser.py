@@ -565,18 +565,18 @@ class Drawings(unittest.TestCase):
         opened.load("lhs", "%ab = var %abc = add %ab, 1 %b.x = add %abc, %ab pc %b.x 1 %B = add %b.x, 1 infer %B")
         for text, said, statement in (
             ("ab", "1 of 2: Statement 1 uses nothing; used by 2, 3.", "1"), ("%abc", "Statement 2 uses 1; used by 3.", "2"),
-            ("b.x", "Statement 3 uses 2, 1; used by 4, 5.", "3"), (" %b ", "1 of 4: Statement 5 uses 3; used by infer.", "5"),
+            ("b.x", "Statement 3 uses 2, 1; used by 4, 5.", "3"), (" %B ", "1 of 4: Statement 4 uses 3; used by infer.", "4"),
             ("<i>", "No name has “<i>” in it.", ""), ("add", "No name has “add” in it.", ""), ("", None, ""), ("%", None, ""),
         ):
             opened.browser.run(f"{{ const one = document.getElementById('name'); one.value = {json.dumps(text)}; one.dispatchEvent(new Event('input')); }}")
             said = "No name has “%” in it." if text == "%" else said
             self.assertEqual((opened.text("found"), opened.value("statement")), (said, statement), text)
-        opened.browser.run("{ const one = document.getElementById('name'); one.value = 'b'; one.dispatchEvent(new Event('input')); one.focus(); }")
+        opened.browser.run("{ const one = document.getElementById('name'); one.value = 'B'; one.dispatchEvent(new Event('input')); one.focus(); }")
         found = []
         for modifiers in (0, 0, 0, 0, 8):
             found.append(opened.value("statement"))
             opened.browser.press("Enter", modifiers, text="\r")
-        self.assertEqual([*found, opened.value("statement")], ["5", "1", "2", "3", "5", "3"])
+        self.assertEqual([*found, opened.value("statement")], ["4", "1", "2", "3", "4", "3"])
 
     PLACE = "(() => { const area = document.getElementById('drawing'); return [area.scrollLeft, area.scrollTop]; })()"
     MIDDLE = "(() => { const box = document.getElementById('drawing').getBoundingClientRect(); return [box.left + box.width / 2, box.top + 40]; })()"
