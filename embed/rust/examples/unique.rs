@@ -36,7 +36,7 @@ fn canonical<'a>(items: &[Item<'a>]) -> Vec<(Item<'a>, Result<String, Error>)> {
 
 // The text; at a terminal what that may obey is another character.
 fn visible(text: String, is_terminal: bool) -> String {
-    let other = |c| match c {
+    let other = |c: char| match c {
         '\n' => c,
         '\0'..='\x1f' => char::from_u32(0x2400 + c as u32).unwrap_or('\u{fffd}'),
         '\x7f' => '\u{2421}',
