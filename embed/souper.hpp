@@ -844,7 +844,8 @@ struct error {
     std::size_t line = 0;   ///< refused: the line of the last of these bytes, or of the first byte if there is none; not_utf8 of a
                             ///< stream: the line of that byte; from 1
     std::size_t column = 0; ///< refused: its column, in bytes and from 1
-    std::string shown = {}; ///< refused: why and where, in four lines without a newline at the end
+    std::string shown = {}; ///< refused: why and where, in four lines without a newline at the end; where is `location` or, without one,
+                            ///< `line` and `column`
     std::optional<flaw> why = {}; ///< not_well_formed: the first flaw of the item, if it could be asked for; no_code: the flaw, if the
                                   ///< bytes have a value that is none
     std::optional<souper::location> location = {}; ///< refused: where the text is at fault; none if memory ran out for it
@@ -1653,13 +1654,32 @@ template <typename Call> bool collect(std::string &out, std::size_t room, error 
     return false;
 }
 
-// Where the text is at fault, if the error says that it was refused.
+// The four lines that show a refusal.
+inline std::string shown(std::string_view message, std::size_t line, std::size_t column, std::string_view text) {
+    const std::string number = std::to_string(line);
+    std::string all = "unknown:" + number + ":" + std::to_string(column) + ": ";
+    all.append(message).append("\n     |\n").append(number.size() < 4 ? 4 - number.size() : 0, ' ').append(number).append(" | ");
+    all.append(text).append("\n     | ").append(column - 1, ' ').append("^");
+    return all;
+}
+
+// The line of a byte of a text, without its line end.
+inline std::string_view line_at(std::string_view text, std::size_t offset) noexcept {
+    const std::size_t before = text.substr(0, std::min(offset, text.size())).rfind('\n'), end = text.find('\n', offset);
+    const std::size_t begin = before == std::string_view::npos ? 0 : before + 1;
+    std::string_view line = text.substr(begin, end == std::string_view::npos ? end : end - begin);
+    line.remove_suffix(end != std::string_view::npos && !line.empty() && line.back() == '\r');
+    return line;
+}
+
+// Where the text is at fault, and what shows it, if the error says that it was refused.
 inline void locate(kind k, std::string_view text, error &e) {
     if (e.what == status::refused) {
         const SouperLocation found = souper_locate(static_cast<std::uint32_t>(k), bytes(text), text.size());
         if (found.status == SOUPER_REFUSED) {
             e.location = location{found.offset, found.line, found.column};
             e.at_end = found.at_end != 0;
+            e.shown = shown(message_of(e.shown), found.line, found.column, line_at(text, found.offset));
         }
     }
 }
@@ -1937,7 +1957,8 @@ inline std::ostream &operator<<(std::ostream &out, const item &one) {
 // The form with exceptions
 #if defined(__cpp_exceptions)
 
-/// A text spells no list of items of the kind. `what()` shows why and where, in four lines.
+/// A text spells no list of items of the kind. `what()` shows why and where, in four lines: at `location` or, without one, at `line` and
+/// `column`.
 class refused : public std::runtime_error {
 public:
     refused(const std::string &shown, const SouperOutcome &outcome, const std::optional<souper::location> &at = std::nullopt,
@@ -2150,37 +2171,28 @@ struct before {
     std::string last_line = {};
 };
 
-// The four lines that show a refusal.
-inline std::string shown(std::string_view message, std::size_t line, std::size_t column, std::string_view text) {
-    const std::string number = std::to_string(line);
-    std::string all = "unknown:" + number + ":" + std::to_string(column) + ": ";
-    all.append(message).append("\n     |\n").append(number.size() < 4 ? 4 - number.size() : 0, ' ').append(number).append(" | ");
-    all.append(text).append("\n     | ").append(column - 1, ' ').append("^");
-    return all;
-}
-
 // Gives the refusal of a segment its place and its location in the stream.
 inline void place(error &e, const before &b) {
     const std::string_view all = e.shown;
-    const std::size_t marks = all.rfind('\n'), line = all.rfind('\n', marks - 1);
-    std::string_view text = all.substr(line + 1, marks - line - 1);
+    const std::size_t marks = all.rfind('\n'), above = all.rfind('\n', marks - 1);
+    std::string_view text = all.substr(above + 1, marks - above - 1);
     const std::size_t bar = text.find(" | ");
     text.remove_prefix(bar == std::string_view::npos ? text.size() : bar + 3);
     if (e.offset == 0 && b.bytes > 0) {
         // The byte before is the newline of the line before.
         e.line = b.lines;
         e.column = b.last_line.size();
-        text = std::string_view(b.last_line).substr(0, e.column - 1);
-        text.remove_suffix(!text.empty() && text.back() == '\r');
+        text = e.location ? text : line_at(b.last_line, e.column - 1);
     } else {
         e.line += b.lines;
     }
-    e.shown = shown(message_of(all), e.line, e.column, text);
     e.offset += b.bytes;
     if (e.location) {
         e.location->offset += b.bytes;
         e.location->line += b.lines;
     }
+    const std::size_t line = e.location ? e.location->line : e.line, column = e.location ? e.location->column : e.column;
+    e.shown = shown(message_of(all), line, column, text);
 }
 
 } // namespace detail

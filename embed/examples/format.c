@@ -5,6 +5,7 @@
 #include <stdio.h>
 #include <stdlib.h>
 #include <string.h>
+#include <unistd.h>
 
 /* The bytes of a file, or NULL. */
 static uint8_t *read_file(const char *path, size_t *length) {
@@ -54,6 +55,40 @@ static int kind_of(const char *word) {
     return -1;
 }
 
+/* The length of the UTF-8 of a control character of two bytes, or of one that turns the direction of a text; else 0. */
+static size_t hidden(const uint8_t *at, const uint8_t *end) {
+    if (end - at > 1 && at[0] == 0xc2 && at[1] < 0xa0) {
+        return 2;
+    }
+    if (end - at > 2 && at[0] == 0xe2) {
+        return (at[1] == 0x80 && at[2] >= 0xaa && at[2] <= 0xae) || (at[1] == 0x81 && at[2] >= 0xa6 && at[2] <= 0xa9) ? 3 : 0;
+    }
+    return 0;
+}
+
+/* Writes what a parse error shows. At a terminal, what that may obey is another character. */
+static void show(const uint8_t *text, size_t length) {
+    const uint8_t *end = text + length;
+    if (!isatty(STDERR_FILENO)) {
+        fwrite(text, 1, length, stderr);
+        return;
+    }
+    while (text < end) {
+        size_t bytes = hidden(text, end);
+        if (bytes > 0) {
+            fputs("\xef\xbf\xbd", stderr);
+            text += bytes;
+            continue;
+        }
+        if ((*text < 0x20 && *text != '\n') || *text == 0x7f) {
+            fprintf(stderr, "\xe2\x90%c", *text == 0x7f ? 0xa1 : 0x80 + *text);
+        } else {
+            fputc(*text, stderr);
+        }
+        text++;
+    }
+}
+
 int main(int argc, char **argv) {
     int kind = argc == 3 ? kind_of(argv[1]) : -1, status = 3;
     size_t length = 0;
@@ -75,7 +110,7 @@ int main(int argc, char **argv) {
         break;
     case SOUPER_REFUSED:
         fprintf(stderr, "%s:%zu:%zu (byte %zu)\n", argv[2], outcome.line, outcome.column, outcome.offset);
-        fwrite(out, 1, outcome.length, stderr);
+        show(out, outcome.length);
         fputc('\n', stderr);
         status = 1;
         break;

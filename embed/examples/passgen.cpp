@@ -13,6 +13,9 @@
 #include <iostream>
 #include <iterator>
 #include <sstream>
+#include <string>
+#include <string_view>
+#include <unistd.h>
 
 namespace {
 
@@ -539,6 +542,30 @@ bool print_rules(const std::vector<item> &items) {
     return all;
 }
 
+// The text; at a terminal what that may obey is another character.
+std::string visible(std::string_view text) {
+    if (!isatty(STDERR_FILENO)) {
+        return std::string(text);
+    }
+    std::string all;
+    for (std::size_t at = 0; at < text.size(); at++) {
+        const auto byte = static_cast<unsigned char>(text[at]);
+        const std::string_view two = text.substr(at, 2), three = text.substr(at, 3);
+        if ((byte < 0x20 && byte != '\n') || byte == 0x7f) {
+            all.append("\xe2\x90").append(1, static_cast<char>(byte == 0x7f ? 0xa1 : 0x80 + byte));
+        } else if (two >= "\xc2\x80" && two < "\xc2\xa0") {
+            all.append("\xef\xbf\xbd");
+            at += 1;
+        } else if ((three >= "\xe2\x80\xaa" && three <= "\xe2\x80\xae") || (three >= "\xe2\x81\xa6" && three <= "\xe2\x81\xa9")) {
+            all.append("\xef\xbf\xbd");
+            at += 2;
+        } else {
+            all.append(1, text[at]);
+        }
+    }
+    return all;
+}
+
 } // namespace
 
 int main(int argc, char **argv) {
@@ -552,7 +579,7 @@ int main(int argc, char **argv) {
         const auto items = souper::canonical(souper::kind::rep, souper::read(souper::kind::rep, text));
         return print_rules(items) ? 0 : 1;
     } catch (const std::exception &error) {
-        std::cerr << error.what() << "\n";
+        std::cerr << visible(error.what()) << "\n";
         return 1;
     }
 }

@@ -118,8 +118,9 @@ class Browser:
     def press(self, key: str, modifiers: int = 0, text: str = "") -> None:
         """Presses a key and lets it go. Modifiers are a sum: 1 Alt, 2 Control, 8 Shift."""
         code = {"Tab": 9, "Enter": 13, " ": 32, "ArrowRight": 39, "ArrowDown": 40, "ArrowLeft": 37,
-                "ArrowUp": 38, "a": 65, "End": 35}[key]
-        named = {"key": key, "code": key if len(key) > 1 else {" ": "Space", "a": "KeyA"}[key]}
+                "ArrowUp": 38, "a": 65, "End": 35, "+": 107, "-": 109, "0": 48}[key]
+        codes = {" ": "Space", "a": "KeyA", "+": "NumpadAdd", "-": "NumpadSubtract", "0": "Digit0"}
+        named = {"key": key, "code": codes.get(key, key)}
         sent = {**named, "windowsVirtualKeyCode": code, "modifiers": modifiers}
         pressed = {"type": "keyDown", "text": text} if text else {"type": "rawKeyDown"}
         self.call("Input.dispatchKeyEvent", **pressed, **sent)

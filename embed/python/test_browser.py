@@ -12,10 +12,13 @@ import json
 import os
 import random
 import re
+import secrets
 import sys
+import tempfile
 import threading
 import time
 import unittest
+import xml.etree.ElementTree as ElementTree
 from collections.abc import Iterator
 from contextlib import contextmanager
 from pathlib import Path
@@ -23,7 +26,7 @@ from typing import Any
 
 import devtools
 import souper
-from souper import page
+from souper import draw, page
 from testing import DRAWN, PICTURES, ROOT, main
 
 STORED = [one for one in DRAWN if one.name in ("conditions", "product", "every", "wide")]
@@ -46,8 +49,10 @@ class Opened:
         self.thread.join()
         self.server.server_close()
 
-    def load(self, kind: str = "lhs", text: str = "") -> None:
+    def load(self, kind: str = "lhs", text: str | None = "") -> None:
+        """Loads the page with a text, at an address for which the browser has kept none."""
         self.server.start = {"kind": kind, "text": text}
+        self.server.token = secrets.token_urlsafe(32)
         self.browser.window(1280, 900)
         self.browser.colors("light")
         self.browser.go(self.server.address)
@@ -72,6 +77,20 @@ class Opened:
     def kind(self, kind: str) -> None:
         self.browser.run(f"document.querySelector('input[value=\"{kind}\"]').click()")
         self.wait()
+
+    def click(self, name: str) -> None:
+        self.browser.run(f"document.getElementById({json.dumps(name)}).click()")
+
+    def value(self, name: str) -> Any:
+        return self.browser.run(f"document.getElementById({json.dumps(name)}).value")
+
+    def until(self, script: str, wanted: Any) -> None:
+        """Waits until an expression has a value."""
+        until = time.monotonic() + 10
+        while (found := self.browser.run(script)) != wanted:
+            if time.monotonic() > until:
+                raise AssertionError((script, found, wanted))
+            time.sleep(0.02)
 
     def text(self, name: str) -> Any:
         """The text that an element shows; None if it is hidden."""
@@ -114,7 +133,7 @@ class Typing(unittest.TestCase):
             self.assertNotIn(event["method"], ("Runtime.exceptionThrown", "Log.entryAdded"), event)
             if event["method"] == "Network.requestWillBeSent":
                 url = event["params"]["request"]["url"]
-                self.assertTrue(url.startswith((opened.server.address, "data:")), url)
+                self.assertTrue(url.startswith((f"http://{opened.server.host}/", "data:")), url)
 
     def test_the_canonical_text(self) -> None:
         opened.browser.run("document.getElementById('text').focus()")
@@ -154,11 +173,138 @@ class Typing(unittest.TestCase):
         self.assertEqual((opened.text("canonical"), opened.svg(), opened.text("keys")), (None, None, None))
         self.assertEqual(opened.text("error").split("\n")[0], "   2 | %y = add %zebra, 1")
         self.assertEqual(self.caret(), 10)
-        opened.browser.run("document.getElementById('go').click()")
+        opened.click("go")
         selected = "[document.activeElement.id, document.activeElement.selectionStart, document.activeElement.selectionEnd]"
-        self.assertEqual(opened.browser.run(selected), ["text", text.index("%zebra"), text.index("%zebra") + 1])
+        self.assertEqual(opened.browser.run(selected), ["text", text.index("%zebra"), text.index("%zebra") + len("%zebra")])
         opened.set("text", text.replace("zebra", "x"))
         self.assertEqual((opened.text("error"), opened.text("go")), (None, None))
+
+    def mark(self, field: str) -> Any:
+        """The text of the mark of a field, and how far it is right of the field's first character and below its line."""
+        return opened.browser.run(f"""(() => {{
+            const field = document.getElementById({json.dumps(field)}), mark = field.nextElementSibling.querySelector('.mark');
+            if (!mark) return null;
+            const box = mark.getBoundingClientRect(), frame = field.getBoundingClientRect(), style = getComputedStyle(field);
+            const left = frame.left + field.clientLeft + parseFloat(style.paddingLeft) - field.scrollLeft;
+            const top = frame.top + field.clientTop + parseFloat(style.paddingTop) - field.scrollTop;
+            return [mark.textContent, Math.round(box.left - left), Math.floor((box.top + box.height / 2 - top) / parseFloat(style.lineHeight))];
+        }})()""")
+
+    def width(self, text: str) -> Any:
+        """The width of a text in a field."""
+        return opened.browser.run(f"""(() => {{
+            const canvas = document.createElement('canvas').getContext('2d'), style = getComputedStyle(document.getElementById('text'));
+            canvas.font = `${{style.fontSize}} ${{style.fontFamily}}`;
+            return Math.round(canvas.measureText({json.dumps(text)}).width);
+        }})()""")
+
+    def test_the_error_is_marked_in_the_text(self) -> None:
+        opened.browser.run("document.getElementById('comparison').open = true")
+        for text, token, before, line in (
+            ("%x = var\n%y = add %zebra, 1\ninfer %y", "%zebra", "%y = add ", 1),
+            ("%x = var ; \U0001f600é\ninfer\u2003%y", "%y", "infer\u2003", 1),
+            ("infer", "", "infer", 0),
+            ("%x = frob 1", "frob", "%x = ", 0),
+            ("\n" * 40 + "  infer %z", "%z", "  infer ", 40),
+            ("%x = var" + " " * 400 + "<", "<", "%x = var" + " " * 400, 0),
+        ):
+            for field in ("text", "other"):
+                opened.set(field, text)
+                found = self.mark(field)
+                self.assertEqual((found[0], found[2]), (token, line), text)
+                self.assertAlmostEqual(found[1], self.width(before), delta=2)
+                self.assertEqual(opened.browser.run(f"document.getElementById('{field}').ariaInvalid"), "true")
+        opened.set("text", "\n" * 40 + " " * 400 + "infer %z")
+        opened.click("go")
+        opened.browser.run("new Promise(requestAnimationFrame)")
+        self.assertEqual(self.mark("text")[::2], ["%z", 40])
+        self.assertAlmostEqual(self.mark("text")[1], self.width(" " * 400 + "infer "), delta=2)
+        opened.set("text", ITEM)
+        self.assertIsNone(self.mark("text"))
+        self.assertEqual(opened.browser.run("document.getElementById('text').ariaInvalid"), "false")
+        # What is typed moves the token: the old mark goes at once.
+        opened.set("text", "infer %z")
+        opened.browser.run("{ const field = document.getElementById('text'); field.value += ' '; field.dispatchEvent(new Event('input')); }")
+        self.assertIsNone(self.mark("text"))
+        opened.wait()
+        self.assertEqual(self.mark("text")[0], "%z")
+
+    def test_the_last_graph_stays(self) -> None:
+        opened.set("text", ITEM)
+        drawing, classes = opened.svg(), "document.getElementById('graph').className"
+        opened.set("text", ITEM + " %z")
+        self.assertEqual((opened.svg(), opened.text("stale")), (drawing, "The graph of the last valid text."))
+        self.assertEqual((opened.browser.run(classes), opened.text("canonical"), opened.text("keys")), ("part graph stale", None, None))
+        self.assertEqual(opened.browser.run(SHADES), [])
+        opened.set("text", ITEM.replace("1", "2"))
+        self.assertEqual((opened.text("stale"), opened.browser.run(classes)), (None, "part graph"))
+        self.assertIn("add %x, 2", opened.svg())
+        opened.set("text", ITEM + " %z")
+        opened.set("text", "")
+        self.assertIsNone(opened.svg())
+
+    def rows(self, name: str) -> Any:
+        return opened.browser.run(f"[...document.querySelectorAll('#{name} .row')].map((row) => [row.classList[1], row.textContent])")
+
+    def test_what_is_not_canonical(self) -> None:
+        opened.set("text", "; <b>one</b>\n%x:i8=var  \n%y = add %x, 1\ninfer %y")
+        self.assertEqual(self.rows("changes-rows"), [
+            ["note", "- this text, + the canonical text"], ["note", "Line 1"], ["gone", "- ; <b>one</b>"], ["gone", "- %x:i8=var··"],
+            ["new", "+ %x:i8 = var"], ["same", "  %y = add %x, 1"], ["same", "  infer %y"], ["new", "+ (empty line)"]])
+        opened.set("text", souper.format("lhs", ITEM))
+        self.assertIsNone(opened.text("changes"))
+        opened.set("text", "result 1")
+        opened.kind("rhs")
+        self.assertEqual(self.rows("changes-rows")[2:], [["same", "  result 1"], ["note", "The newline at the end is missing."]])
+        for text in ("infer", "", "; nothing"):
+            opened.set("text", text)
+            self.assertIsNone(opened.text("changes"))
+
+    def test_an_example(self) -> None:
+        for kind in ("lhs", "rhs", "rep"):
+            opened.load(kind, None)
+            self.assertRegex(opened.text("status"), "^1 item. The text is valid, and not canonical.$")
+            self.assertGreater(len(souper.read(kind, opened.value("text"))[0].statements), 1)
+            self.assertIsNone(opened.text("example"))
+        # An example becomes the other kind's, and what was changed stays.
+        opened.kind("rhs")
+        self.assertEqual(len(souper.read("rhs", opened.value("text"))), 1)
+        opened.set("text", opened.value("text") + " ")
+        changed = opened.value("text")
+        opened.kind("lhs")
+        self.assertEqual(opened.value("text"), changed)
+        opened.set("text", "")
+        self.assertEqual(opened.text("example"), "Example")
+        opened.click("example")
+        opened.wait()
+        self.assertEqual((opened.focused(), len(souper.read("lhs", opened.value("text")))), ("text", 1))
+        opened.load("lhs", "")
+        self.assertEqual((opened.value("text"), opened.text("status")), ("", "Type Souper IR."))
+
+    def test_texts_stay_when_the_page_is_loaded_again(self) -> None:
+        opened.load("lhs", "%first = var infer %first")
+        opened.kind("rep")
+        opened.browser.run("document.querySelector('summary').click()")
+        opened.set("text", "%x = var cand %x, 1 %y = var cand %y, 1")
+        opened.set("other", "<b>cand 1, 2</b>")
+        opened.browser.run("{ const one = document.getElementById('item'); one.value = 2; one.dispatchEvent(new Event('change')); }")
+        opened.wait()
+        shown = [opened.text(name) for name in ("status", "key", "verdict", "keys-title")]
+        opened.browser.go(opened.server.address)
+        opened.wait()
+        self.assertEqual([opened.text(name) for name in ("status", "key", "verdict", "keys-title")], shown)
+        self.assertEqual((opened.value("other"), opened.value("item")), ("<b>cand 1, 2</b>", "2"))
+        # Another address begins with its own text.
+        opened.load("lhs", "%first = var infer %first")
+        self.assertEqual((opened.value("text"), opened.value("other")), ("%first = var infer %first", ""))
+
+    def test_a_hint_has_its_place(self) -> None:
+        opened.set("text", "infer")
+        self.assertIsNone(opened.text("hint"))
+        opened.browser.run("showHint(document.getElementById('hint'), {hint: '<b>add</b>\\x1b'})")
+        self.assertEqual(opened.text("hint"), "hint: <b>add</b>␛")
+        opened.set("text", ITEM)
+        self.assertIsNone(opened.text("hint"))
 
     def caret(self) -> Any:
         """The number, from 1, of the character of the line that is above the caret."""
@@ -226,7 +372,13 @@ class Typing(unittest.TestCase):
         ):
             opened.set("other", text)
             self.assertEqual(opened.text("verdict"), verdict)
+            self.assertEqual(opened.text("difference") is not None, verdict.startswith("Different"))
         self.assertEqual(opened.text("other-error"), None)
+        opened.set("other", ITEM.replace("1", "2"))
+        self.assertEqual(self.rows("difference"), [
+            ["note", "- the first text, + the second, both canonical"], ["note", "Line 1"], ["same", "  %x:i8 = var"],
+            ["gone", "- %y = add %x, 1"], ["new", "+ %y = add %x, 2"], ["same", "  infer %y"]])
+        opened.set("other", ITEM)
         opened.set("text", "infer")
         self.assertEqual(opened.text("verdict"), "The first text is invalid.")
         opened.set("other", "infer")
@@ -409,6 +561,111 @@ class Drawings(unittest.TestCase):
         opened.browser.run("document.getElementById('smaller').click()")
         self.assertLess(opened.browser.run(width), 1000)
 
+    def test_names_are_found(self) -> None:
+        opened.load("lhs", "%ab = var %abc = add %ab, 1 %b.x = add %abc, %ab pc %b.x 1 %B = add %b.x, 1 infer %B")
+        for text, said, statement in (
+            ("ab", "1 of 2: Statement 1 uses nothing; used by 2, 3.", "1"), ("%abc", "Statement 2 uses 1; used by 3.", "2"),
+            ("b.x", "Statement 3 uses 2, 1; used by 4, 5.", "3"), (" %B ", "1 of 4: Statement 4 uses 3; used by infer.", "4"),
+            ("<i>", "No name has “<i>” in it.", ""), ("add", "No name has “add” in it.", ""), ("", None, ""), ("%", None, ""),
+        ):
+            opened.browser.run(f"{{ const one = document.getElementById('name'); one.value = {json.dumps(text)}; one.dispatchEvent(new Event('input')); }}")
+            said = "No name has “%” in it." if text == "%" else said
+            self.assertEqual((opened.text("found"), opened.value("statement")), (said, statement), text)
+        opened.browser.run("{ const one = document.getElementById('name'); one.value = 'B'; one.dispatchEvent(new Event('input')); one.focus(); }")
+        found = []
+        for modifiers in (0, 0, 0, 0, 8):
+            found.append(opened.value("statement"))
+            opened.browser.press("Enter", modifiers, text="\r")
+        self.assertEqual([*found, opened.value("statement")], ["4", "1", "2", "3", "4", "3"])
+
+    PLACE = "(() => { const area = document.getElementById('drawing'); return [area.scrollLeft, area.scrollTop]; })()"
+    MIDDLE = "(() => { const box = document.getElementById('drawing').getBoundingClientRect(); return [box.left + box.width / 2, box.top + 40]; })()"
+
+    def mouse(self, kind: str, x: float, y: float, **more: Any) -> None:
+        opened.browser.call("Input.dispatchMouseEvent", type=kind, x=x, y=y, **more)
+
+    def test_the_mouse_drags(self) -> None:
+        opened.load("lhs", (PICTURES / "wide.lhs").read_text())
+        opened.browser.run("document.getElementById('drawing').scrollIntoView(); document.getElementById('drawing').scrollLeft = 300")
+        x, y = opened.browser.run(self.MIDDLE)
+        self.mouse("mousePressed", x, y, button="left", buttons=1, clickCount=1)
+        for step in range(1, 6):
+            self.mouse("mouseMoved", x - 20 * step, y, button="left", buttons=1)
+        self.mouse("mouseReleased", x - 100, y, button="left", buttons=0, clickCount=1)
+        self.assertEqual(opened.browser.run(self.PLACE)[0], 400)
+        # What was dragged is not chosen; a click chooses.
+        self.assertEqual(opened.value("statement"), "")
+        self.mouse("mouseMoved", x, y, buttons=0)
+        self.assertEqual(opened.browser.run(self.PLACE)[0], 400)
+        self.mouse("mousePressed", *self.box(), button="left", buttons=1, clickCount=1)
+        self.mouse("mouseReleased", *self.box(), button="left", buttons=0, clickCount=1)
+        self.assertNotEqual(opened.value("statement"), "")
+
+    def box(self) -> Any:
+        """The middle of a statement that is in view."""
+        return opened.browser.run("""(() => {
+            const frame = document.getElementById('drawing').getBoundingClientRect();
+            for (const box of [...document.querySelectorAll('#drawing .boxes > g:not(.last)')].map((one) => one.getBoundingClientRect()))
+                if (box.left > frame.left && box.right < frame.right && box.bottom < Math.min(frame.bottom, innerHeight)) return [box.left + box.width / 2, box.top + box.height / 2];
+        })()""")
+
+    def test_the_wheel_changes_the_size(self) -> None:
+        opened.load("lhs", (PICTURES / "wide.lhs").read_text())
+        opened.browser.run("document.getElementById('drawing').scrollIntoView(); document.getElementById('drawing').scrollLeft = 300")
+        (x, y), width = opened.browser.run(self.MIDDLE), "document.querySelector('#drawing svg').getBoundingClientRect().width"
+        under = f"(() => {{ const box = document.querySelector('#drawing svg').getBoundingClientRect(); return ({x} - box.left) / box.width; }})()"
+        before, at = opened.browser.run(width), opened.browser.run(under)
+        self.mouse("mouseWheel", x, y, deltaX=0, deltaY=-200, modifiers=2)
+        opened.until(f"{width} > {before} * 1.5", True)
+        # The point under the mouse stays there.
+        self.assertAlmostEqual(opened.browser.run(under), at, delta=0.005)
+        self.mouse("mouseWheel", x, y, deltaX=0, deltaY=400, modifiers=2)
+        opened.until(f"{width} < {before}", True)
+
+    def test_keys_change_the_size(self) -> None:
+        opened.load("lhs", (PICTURES / "wide.lhs").read_text())
+        width = "document.querySelector('#drawing svg').getBoundingClientRect().width"
+        first = opened.browser.run(width)
+        opened.browser.run("document.getElementById('drawing').focus()")
+        for key, least, most in (("+", 1.2, 1.3), ("-", 0.95, 1.05), ("-", 0.75, 0.85)):
+            opened.browser.press(key, text=key)
+            self.assertTrue(first * least < opened.browser.run(width) < first * most, (key, first, opened.browser.run(width)))
+        opened.browser.press("0", text="0")
+        self.assertLessEqual(opened.browser.run(width), opened.browser.run("document.getElementById('drawing').clientWidth"))
+
+    def saved(self, name: str, button: str) -> str:
+        """The text of the file that a button saves."""
+        with tempfile.TemporaryDirectory() as folder:
+            opened.browser.call("Browser.setDownloadBehavior", behavior="allow", downloadPath=folder)
+            opened.click(button)
+            path, until = Path(folder, name), time.monotonic() + 20
+            while not path.exists() or not path.read_text().rstrip().endswith(("</svg>", "}")):
+                if time.monotonic() > until:
+                    raise AssertionError(sorted(os.listdir(folder)))
+                time.sleep(0.05)
+            return path.read_text()
+
+    def test_files_are_saved(self) -> None:
+        text = "%a = var infer %a\n" + (PICTURES / "wide.lhs").read_text()
+        opened.load("lhs", text)
+        opened.browser.run("{ const one = document.getElementById('item'); one.value = 2; one.dispatchEvent(new Event('change')); }")
+        opened.wait()
+        [_, record] = souper.records("lhs", text)
+        opened.click("larger")
+        for is_valid in (True, False):
+            self.assertEqual(self.saved("item-2.dot", "save-dot"), draw.dot("lhs", record.text))
+            found = ElementTree.fromstring(self.saved("item-2.svg", "save-svg"))
+            width, height = found.get("viewBox", "").split(" ")[2:]
+            self.assertEqual((found.get("width"), found.get("height")), (width, height))
+            style = found.findtext("{http://www.w3.org/2000/svg}style") or ""
+            self.assertIn("fill", style)
+            self.assertNotIn("var(", style)
+            shown = {one.text for one in found.iter("{http://www.w3.org/2000/svg}text")}
+            self.assertIn(record.text.split("\n")[0], shown)
+            if is_valid:
+                # The last graph is saved, too.
+                opened.set("text", text + " x")
+
 
 class Keyboard(unittest.TestCase):
     """The page without a mouse."""
@@ -434,7 +691,8 @@ class Keyboard(unittest.TestCase):
 
     def test_the_order_of_focus(self) -> None:
         opened.load("lhs", ITEM)
-        wanted = ["lhs", "text", "SUMMARY", "copy", "canonical", "statement", "smaller", "larger", "fit", "drawing"]
+        wanted = ["lhs", "text", "SUMMARY", "copy", "changes-title", "changes-rows", "canonical", "statement", "name", "smaller", "larger", "fit",
+                  "save-svg", "save-dot", "drawing"]
         found = self.order()
         self.assertEqual(found, wanted)
         # Out of the page and back: no trap.
@@ -444,6 +702,17 @@ class Keyboard(unittest.TestCase):
         opened.load("lhs", "infer %x")
         self.assertEqual(self.order(), ["lhs", "text", "SUMMARY", "go", "error"])
 
+    def test_the_order_without_a_text(self) -> None:
+        opened.load()
+        self.assertEqual(self.order(), ["lhs", "example", "text", "SUMMARY"])
+
+    def tab_to(self, name: str) -> None:
+        for _ in range(12):
+            opened.browser.press("Tab")
+            if opened.focused() == name:
+                return
+        self.fail(f"{name} has no focus")
+
     def test_by_keys_alone(self) -> None:
         opened.load()
         press, browser = opened.browser.press, opened.browser
@@ -451,8 +720,7 @@ class Keyboard(unittest.TestCase):
         press("ArrowRight")
         press("ArrowRight")
         self.assertEqual(opened.focused(), "rep")
-        press("Tab")
-        self.assertEqual(opened.focused(), "text")
+        self.tab_to("text")
         browser.type("%x = var cand %x, 1 %y = var cand %y, 2")
         time.sleep(0.3)
         opened.wait()
@@ -465,9 +733,7 @@ class Keyboard(unittest.TestCase):
         time.sleep(0.3)
         opened.wait()
         self.assertEqual(opened.text("verdict"), "Different, and the same modulo renaming. First difference: item 2.")
-        for _ in range(3):
-            press("Tab")
-        self.assertEqual(opened.focused(), "item")
+        self.tab_to("item")
         press("ArrowUp")
         time.sleep(0.1)
         opened.wait()
@@ -476,12 +742,9 @@ class Keyboard(unittest.TestCase):
         self.assertEqual(opened.focused(), "statement")
         press("ArrowUp")
         self.assertEqual(opened.text("found"), "Statement 1 uses nothing; used by cand.")
-        for _ in range(3):
-            press("Tab")
-        self.assertEqual(opened.focused(), "fit")
+        self.tab_to("fit")
         press("Enter", text="\r")
-        press("Tab")
-        self.assertEqual(opened.focused(), "drawing")
+        self.tab_to("drawing")
 
     def test_the_drawing_scrolls_by_keys(self) -> None:
         opened.load("lhs", (PICTURES / "wide.lhs").read_text())
@@ -519,6 +782,12 @@ RANDOM = """(count) => {
     return [count, "drawn"];
 }"""
 
+# The colors of the boxes that are no grey.
+SHADES = """(() => {
+    const colors = [...document.querySelectorAll('#drawing .shape')].map((one) => getComputedStyle(one).fill.match(/\\d+/g).map(Number));
+    return colors.filter((color) => Math.max(...color.slice(0, 3)) - Math.min(...color.slice(0, 3)) > 24);
+})()"""
+
 # What is read on what, and how much it stands out at least: 4.5 for text, 3 for what is no text.
 CONTRASTS = """(() => {
     const canvas = document.createElement('canvas').getContext('2d', { willReadFrequently: true });
@@ -527,7 +796,7 @@ CONTRASTS = """(() => {
     const ratio = (a, b) => { const [x, y] = [light(a), light(b)].sort((p, q) => q - p); return (x + 0.05) / (y + 0.05); };
     const back = (one) => { for (; one; one = one.parentElement) { const color = getComputedStyle(one).backgroundColor; if (parts(color)[3] > 0) return color; } return 'white'; };
     const found = [];
-    for (const one of document.querySelectorAll('h1, h2, p, legend, label, summary, textarea, pre, dt, dd, button, li, .caret')) {
+    for (const one of document.querySelectorAll('h1, h2, p, legend, label, summary, textarea, pre, dt, dd, button, li, input[type=number], input[type=search], .caret, .row')) {
         if (one.checkVisibility() && one.textContent.trim() + (one.value ?? '') !== '') found.push([one.id || one.tagName, ratio(getComputedStyle(one).color, back(one)), 4.5]);
     }
     for (const group of document.querySelectorAll('#drawing .boxes > g')) {
@@ -552,11 +821,14 @@ class Looks(unittest.TestCase):
         yield "invalid", "lhs", "%x = var " + "(nonZero) " * 20 + "\n" + "%y = add %z, 1 ; " + "long " * 40 + "\n", None
         yield "names", "lhs", f"%{'n' * 300} = var infer %{'n' * 300}", f"%{'m' * 300} = var infer %{'m' * 301}"
         yield "wide", "lhs", (PICTURES / "wide.lhs").read_text(), None
+        yield "stale", "rep", (PICTURES / "every.rep").read_text() + "%x", None
+        yield "names-alone", "lhs", ITEM, ITEM.replace("%x", "%a").replace("1", "2")
 
     def show(self, state: tuple[str, str, str, str | None]) -> None:
-        _, kind, text, other = state
-        opened.set("text", text)
+        name, kind, text, other = state
+        opened.set("text", text.removesuffix("%x") if name == "stale" else text)
         opened.kind(kind)
+        opened.set("text", text)
         is_open = opened.browser.run("document.getElementById('comparison').open")
         if is_open != (other is not None):
             opened.browser.run("document.querySelector('summary').click()")
@@ -569,7 +841,7 @@ class Looks(unittest.TestCase):
         folder = os.environ.get("SOUPER_SCREENSHOTS")
         backs = set()
         for state in self.states():
-            for width, scheme in ((1280, "light"), (1280, "dark"), (360, "light"), (360, "dark")):
+            for width, scheme in ((1280, "light"), (1280, "dark"), (320, "light"), (320, "dark")):
                 with self.subTest(state[0], width=width, scheme=scheme):
                     opened.load()
                     opened.browser.window(width, 800, is_phone=width < 500)
@@ -577,7 +849,7 @@ class Looks(unittest.TestCase):
                     self.show(state)
                     # The page has no sideways scroll.
                     self.assertEqual(opened.browser.run("document.documentElement.scrollWidth"), width)
-                    self.assertEqual(opened.browser.run("[...document.querySelectorAll('body *')].filter((one) => one.checkVisibility() && !one.closest('#drawing') && one.getBoundingClientRect().right > innerWidth + 0.5 && !one.closest('pre')).length"), 0)
+                    self.assertEqual(opened.browser.run("[...document.querySelectorAll('body *')].filter((one) => one.checkVisibility() && !one.closest('#drawing, pre, .marks') && one.getBoundingClientRect().right > innerWidth + 0.5).length"), 0)
                     for name, ratio, least in opened.browser.run(CONTRASTS):
                         self.assertGreaterEqual(round(ratio, 2), least, name)
                     backs.add((scheme, opened.browser.run("getComputedStyle(document.body).backgroundColor")))
@@ -588,8 +860,8 @@ class Looks(unittest.TestCase):
 
     def test_a_phone_s_targets(self) -> None:
         opened.load("lhs", (PICTURES / "several.lhs").read_text())
-        opened.browser.window(360, 740, is_phone=True)
-        small = "[...document.querySelectorAll('button, summary, label:has(input), input[type=number]')].filter((one) => one.checkVisibility() && (one.getBoundingClientRect().height < 24 || one.getBoundingClientRect().width < 24)).map((one) => one.id || one.textContent)"
+        opened.browser.window(320, 640, is_phone=True)
+        small = "[...document.querySelectorAll('button, summary, label:has(input), input[type=number], input[type=search]')].filter((one) => one.checkVisibility() && (one.getBoundingClientRect().height < 24 || one.getBoundingClientRect().width < 24)).map((one) => one.id || one.textContent)"
         self.assertEqual(opened.browser.run(small), [])
 
 

@@ -8,6 +8,7 @@ from __future__ import annotations
 import doctest
 import json
 import os
+import pty
 import random
 import re
 import shutil
@@ -15,7 +16,9 @@ import signal
 import subprocess
 import sys
 import tempfile
+import termios
 import time
+import tty
 import unittest
 import xml.etree.ElementTree as ElementTree
 from collections import Counter
@@ -249,13 +252,60 @@ class Program(unittest.TestCase):
 
     def test_an_invalid_text(self) -> None:
         path = ROOT / "examples/invalid.souper"
-        shown = "6:9: unknown value '%z'\n     |\n   6 | %y = add %z, 1\n     |         ^\n"
+        shown = "6:10: unknown value '%z'\n     |\n   6 | %y = add %z, 1\n     |          ^\n"
         for form in ("--dot", "--svg"):
             found = program("draw", form, "lhs", path)
             self.assertEqual((found.returncode, found.stdout), (1, b""))
             self.assertEqual(found.stderr.decode(), f"{path}:{shown}")
         found = program("draw", "lhs", input=path.read_bytes())
         self.assertEqual((found.returncode, found.stderr.decode()), (1, f"(standard input):{shown}"))
+
+    def at_terminal(self, *arguments: str | Path) -> str:
+        """What the program writes to standard error, which is a terminal."""
+        ours, theirs = pty.openpty()
+        tty.setraw(theirs, termios.TCSANOW)
+        with open(os.devnull, "r+b") as nothing:
+            command = [sys.executable, "-m", "souper.draw", *map(str, arguments)]
+            subprocess.run(command, env=environment(), stdin=nothing, stdout=nothing, stderr=theirs, timeout=120, check=False)
+        os.write(theirs, b"\0")
+        written = b""
+        while not written.endswith(b"\0"):
+            written += os.read(ours, 1 << 16)
+        os.close(theirs)
+        os.close(ours)
+        return written[:-1].decode()
+
+    def test_an_invalid_text_at_a_terminal(self) -> None:
+        hidden = "\x1b[31m\x07\x7f\x9b\u202e\u2066"
+        with tempfile.TemporaryDirectory() as folder:
+            path = Path(folder, "a\x1b.lhs")
+            for line, caret, shown, column in (
+                (f"%x = var pc %y 1 ; {hidden}\ufeff", 12, "%x = var pc %y 1 ; ␛[31m␇␡\ufffd\ufffd\ufffd<U+FEFF>", 12),
+                ("%x = var\ninfer\u3000%y", 8, "infer\u3000%y", 7),
+                (f"%x = var {' ' * 300}pc %y 1 ; {'c' * 300}", 312, f"…{' ' * 77}pc %y 1 ; {'c' * 73}…", 81),
+            ):
+                path.write_text(line)
+                number = line.count("\n") + 1
+                found = self.at_terminal("lhs", path).split("\n")
+                head = str(path).replace("\x1b", "␛")
+                self.assertTrue(found[0].startswith(f"{head}:{number}:{caret + 1}: "), found)
+                self.assertEqual(found[1:], ["     |", f"   {number} | {shown}", f"     | {' ' * column}^", ""])
+            path.write_text("infer \x1b")
+            for one in "".join(self.at_terminal("lhs", path).split("\n")):
+                self.assertTrue(one.isprintable(), one)
+
+    def test_what_fails_at_a_terminal(self) -> None:
+        for arguments in (["lhs", "/\x1b[31m\udcff"], ["lhs", "a", "\x1b[31m"], ["\x9b"], ["\u202e"]):
+            found = self.at_terminal(*arguments)
+            self.assertTrue(found.endswith("\n"), found)
+            self.assertTrue(all(one.isprintable() for one in "".join(found.split("\n"))), found)
+
+    def test_the_command(self) -> None:
+        program = "import sys; sys.argv[0] = sys.argv.pop(1); from souper.draw import command; command()"
+        for name, said in (("/usr/bin/souper-draw", "souper-draw"), ("souper-drawn", "souper.draw")):
+            command = [sys.executable, "-c", program, name, "lhs", "/nowhere"]
+            found = subprocess.run(command, env=environment(), capture_output=True, text=True, check=False)
+            self.assertEqual((found.returncode, found.stderr), (2, f"{said}: /nowhere: No such file or directory\n"))
 
     def test_what_fails(self) -> None:
         for arguments, said in (

@@ -7,6 +7,7 @@ import gzip
 import hashlib
 import http.client
 import json
+import random
 import re
 import select
 import signal
@@ -18,14 +19,14 @@ import tempfile
 import threading
 import time
 import unittest
-from collections.abc import Iterator
+from collections.abc import Iterator, Sequence
 from contextlib import ExitStack, contextmanager
 from pathlib import Path
 from typing import Any, NamedTuple
 from unittest import mock
 
 import souper
-from souper import Kind, page
+from souper import Kind, _differences, draw, page
 from souper._pictures import pictures
 from testing import HERE, REFUSED, ROOT, VALID, environment, main, program
 
@@ -39,9 +40,9 @@ class Response(NamedTuple):
 
 
 @contextmanager
-def served(kind: str = "lhs", text: str = "") -> Iterator[page.PageServer]:
+def served(kind: str = "lhs", text: str = "", host: str = "127.0.0.1") -> Iterator[page.PageServer]:
     """A server of the page in this process."""
-    with page.PageServer(kind, text) as server:
+    with page.PageServer(kind, text, host=host) as server:
         thread = threading.Thread(target=server.serve_forever, args=(0.01,))
         thread.start()
         try:
@@ -77,13 +78,13 @@ class Requests(unittest.TestCase):
         connection.close()
         return response
 
-    def ask(self, body: bytes | object, **headers: str) -> Response:
+    def ask(self, body: bytes | object, path: str = "ask", **headers: str) -> Response:
         data = body if isinstance(body, bytes) else json.dumps(body).encode()
         given = {
             "Origin": f"http://{self.server.host}", "Content-Type": "application/json",
             "Content-Length": str(len(data)), **{name.replace("_", "-"): value for name, value in headers.items()},
         }
-        return self.request("POST", "ask", {name: value for name, value in given.items() if value}, data)
+        return self.request("POST", path, {name: value for name, value in given.items() if value}, data)
 
     def question(self, kind: str, *texts: str, item: int = 0) -> Any:
         found = self.ask({"kind": kind, "texts": texts, "item": item})
@@ -168,6 +169,21 @@ class Requests(unittest.TestCase):
         found = self.request("GET", f"http://evil.example/{self.server.token}/")
         self.assertEqual(found.status, 404)
 
+    def test_the_host_localhost(self) -> None:
+        stack = ExitStack()
+        self.addCleanup(stack.close)
+        self.server = stack.enter_context(served(host="localhost"))
+        port = self.server.server_port
+        self.assertEqual(self.server.address, f"http://localhost:{port}/{self.server.token}/")
+        self.assertEqual(self.request("GET", "~").status, 200)
+        self.assertEqual(self.ask({"kind": "lhs", "texts": [""], "item": 0}).status, 200)
+        for host in (f"127.0.0.1:{port}", "localhost", f"localhost.:{port}", f"LOCALHOST:{port}", f"evil.localhost:{port}"):
+            self.assertEqual(self.request("GET", "~", hosts=(host,)).status, 403)
+        origin = f"http://127.0.0.1:{port}"
+        self.assertEqual(self.ask({"kind": "lhs", "texts": [""], "item": 0}, Origin=origin).status, 403)
+        for host in ("", "0.0.0.0", "::1", "evil.example", "127.0.0.2"):
+            self.assertRaises(ValueError, page.PageServer, host=host)
+
     def test_another_origin(self) -> None:
         host, port = self.server.host, self.server.server_port
         others = ["null", f"http://localhost:{port}", f"https://{host}", "http://127.0.0.1", "http://127.0.0.1:80", "",
@@ -199,6 +215,7 @@ class Requests(unittest.TestCase):
                 self.assertEqual(found.status, 501)
                 self.assertIn("text/plain", found.headers["Content-Type"])
         self.assertEqual(self.request("GET", "ask").status, 405)
+        self.assertEqual(self.request("GET", "dot").status, 405)
         self.assertEqual(self.request("POST", "~", origin).status, 405)
         self.assertEqual(self.request("POST", "start", origin).status, 405)
 
@@ -253,6 +270,16 @@ class Requests(unittest.TestCase):
             self.assertEqual((found.status, found.body), (400, b"The question is not JSON.\n"), body[:20])
         self.assertEqual(self.ask({**good, "item": 10**30}).status, 200)
 
+    def test_a_graph_in_dot(self) -> None:
+        text = "%x = var infer %x %y = var infer %y"
+        found = self.ask({"kind": "lhs", "texts": [text], "item": 1}, "dot")
+        self.assertEqual((found.status, json.loads(found.body)), (200, {"dot": draw.dot("lhs", "%y = var infer %y")}))
+        for wrong, item in ((text, 2), ("", 0), ("infer", 0)):
+            found = self.ask({"kind": "lhs", "texts": [wrong], "item": item}, "dot")
+            self.assertEqual((found.status, found.body), (400, b"the text has no such item.\n"))
+        self.assertEqual(self.ask(b"{}", "dot").status, 400)
+        self.assertEqual(self.ask({"kind": "lhs", "texts": [text], "item": 0}, "dot", Origin="").status, 403)
+
     def test_bytes_that_are_not_utf8(self) -> None:
         for body in (b'{"kind":"lhs","texts":["\xff"],"item":0}', b"\xc3", b'{"kind":"lhs","texts":["\\ud800"],"item":0}',
                      b'{"kind":"lhs","texts":["","\\udfff"],"item":0}'):
@@ -283,6 +310,67 @@ class Requests(unittest.TestCase):
                 self.assertNotIn(b"200 OK", found)
 
 
+def lines(text: str) -> list[str]:
+    return text.removesuffix("\n").split("\n") if text else []
+
+
+def patched(first: str, rows: Sequence[Sequence[str]]) -> list[str] | None:
+    """The lines of the second text, of the first one's and rows of differences; None if some are left out."""
+    old, found, at = lines(first), [], 0
+    for mark, text in rows:
+        if mark == "@":
+            found += old[at : int(text) - 1]
+            at = int(text) - 1
+        elif mark == "+":
+            found.append(text)
+        elif mark == "…":
+            return None
+        elif mark != "\\":
+            assert old[at] == text, (rows, at)
+            found += [text] if mark == " " else []
+            at += 1
+    return found + old[at:]
+
+
+class Differences(unittest.TestCase):
+    """Where two texts differ."""
+
+    def test_examples(self) -> None:
+        for first, second, wanted in (
+            ("", "", []),
+            ("a\n", "a\n", []),
+            ("a", "a\n", [("@", "1"), (" ", "a"), ("\\", "")]),
+            ("a\nb", "a\nb\n\n", [("@", "1"), (" ", "a"), (" ", "b"), ("+", "")]),
+            ("a\nb\nc\nd\ne\nf\n", "a\nb\nc\nD\ne\nf\n",
+             [("@", "2"), (" ", "b"), (" ", "c"), ("-", "d"), ("+", "D"), (" ", "e"), (" ", "f")]),
+            ("; c\n%x = var\ninfer %x", "%x = var\ninfer %x\n\n",
+             [("@", "1"), ("-", "; c"), (" ", "%x = var"), (" ", "infer %x"), ("+", "")]),
+            ("a\u2028b\n", "a\n", [("@", "1"), ("-", "a\u2028b"), ("+", "a")]),
+            ("", "a\n", [("@", "1"), ("+", "a")]),
+            ("a\n", "", [("@", "1"), ("-", "a")]),
+        ):
+            self.assertEqual(_differences.rows(first, second), wanted, (first, second))
+
+    def test_the_rows_make_the_second_text(self) -> None:
+        r = random.Random(4)
+        for _ in range(3000):
+            first = "".join(r.choice("abc\n\n") for _ in range(r.randrange(60)))
+            second = "".join(r.choice("ab\n") if r.randrange(15) == 0 else one for one in first)
+            rows = _differences.rows(first, second)
+            self.assertEqual(rows == [], first == second)
+            self.assertEqual(patched(first, rows), lines(second), (first, second))
+
+    def test_long_texts(self) -> None:
+        first = "".join(f"{n}\n" for n in range(100_000))
+        self.assertEqual(_differences.rows(first, first.replace("\n500\n", "\nx\n"))[:4], [("@", "499"), (" ", "498"), (" ", "499"), ("-", "500")])
+        started = time.monotonic()
+        rows = _differences.rows(first, "\n".join(reversed(first.split("\n"))))
+        self.assertEqual((rows[0], rows[-1], len(rows)), (("@", "1"), ("…", ""), 22))
+        many = _differences.rows("a\nb\n" * 120, "a\nc\n" * 120)
+        self.assertEqual((len(many), many[-1]), (201, ("…", "")))
+        self.assertLess(time.monotonic() - started, 3)
+
+
 class Answers(unittest.TestCase):
     """What a question's answer has."""
 
@@ -298,6 +386,8 @@ class Answers(unittest.TestCase):
             if not records:
                 continue
             self.assertIs(found["canonical"], souper.check(record.kind, text))
+            self.assertEqual(found["changes"] == [], found["canonical"])
+            self.assertIn(patched(text, found["changes"]), (None, lines(found["text"])), record)
             for item in {0, len(records) - 1}:
                 found = self.shown(record.kind, text, item=item)["texts"][0]
                 self.assertEqual((found["item"], found["key"]), (item, records[item].key))
@@ -330,7 +420,7 @@ class Answers(unittest.TestCase):
             location = refusal.location
             assert location is not None
             self.assertEqual((error["line"], error["column"]), location[1:])
-            head = f"unknown:{refusal.line}:{refusal.column}: {error['message']}\n     |\n"
+            head = f"unknown:{error['line']}:{error['column']}: {error['message']}\n     |\n"
             self.assertTrue(refusal.shown.startswith(head), record)
             self.assertEqual(error["source"], text.split("\n")[location.line - 1].removesuffix("\r"))
             before = text.encode("utf-16-le")[: 2 * error["position"]].decode("utf-16-le")
@@ -351,13 +441,27 @@ class Answers(unittest.TestCase):
             ("", "", True, True, 0), ("", x, False, False, 0), ("; one", " ", True, True, 0),
         ):
             found = self.shown("lhs", first, second)
-            self.assertEqual(found["compared"], {"same": same, "renamed": renamed, "item": item}, (first, second))
+            compared = found["compared"]
+            self.assertEqual([compared[name] for name in ("same", "renamed", "item")], [same, renamed, item], (first, second))
+            self.assertEqual(compared["rows"] == [], same)
             self.assertIs(souper.same("lhs", first, second), same)
         self.assertIsNone(self.shown("lhs", x)["compared"])
         for first, second in ((x, "infer"), ("infer", x), ("infer", "infer")):
             found = self.shown("lhs", first, second)
             self.assertIsNone(found["compared"])
             self.assertEqual(["error" in one for one in found["texts"]], [first == "infer", second == "infer"])
+
+    def test_what_differs(self) -> None:
+        x, y, z = "%x = var infer %x ", "%y = var infer %y ", "%x:i8 = var infer %x "
+        for first, second, item, rows in (
+            (x, y, 0, [("@", "1"), ("-", "%x = var"), ("-", "infer %x"), ("+", "%y = var"), ("+", "infer %y")]),
+            # The names of the first item differ too.
+            (x + x, y + z, 1, [("@", "1"), ("-", "%x = var"), ("+", "%x:i8 = var"), (" ", "infer %x")]),
+            (x, x + y, 1, [("@", "1"), ("+", "%y = var"), ("+", "infer %y")]),
+            (x + y, x, 1, [("@", "1"), ("-", "%y = var"), ("-", "infer %y")]),
+        ):
+            compared = self.shown("lhs", first, second)["compared"]
+            self.assertEqual((compared["item"], compared["rows"]), (item, rows))
 
     def test_comparisons_of_stored_texts(self) -> None:
         for record in VALID:
@@ -399,13 +503,13 @@ class Started:
         )
         assert self.process.stdout is not None
         self.line = self.process.stdout.readline().decode()
-        found = re.fullmatch(r"http://127\.0\.0\.1:(\d+)/([\w-]{43})/\n", self.line)
+        found = re.fullmatch(r"http://(127\.0\.0\.1|localhost):(\d+)/([\w-]{43})/\n", self.line)
         assert found is not None, (self.line, self.process.stderr)
-        self.port, self.token = int(found[1]), found[2]
+        self.host, self.port, self.token = found[1], int(found[2]), found[3]
 
     def get(self, path: str) -> Response:
         connection = http.client.HTTPConnection("127.0.0.1", self.port, timeout=20)
-        connection.request("GET", f"/{self.token}/{path}")
+        connection.request("GET", f"/{self.token}/{path}", headers={"Host": f"{self.host}:{self.port}"})
         found = connection.getresponse()
         response = Response(found.status, found.headers, found.read())
         connection.close()
@@ -434,14 +538,31 @@ class Program(unittest.TestCase):
         started = Started()
         with socket.create_connection(("127.0.0.1", started.port)) as connection:
             connection.sendall(b"GET /")
-            self.assertEqual(json.loads(started.get("start").body), {"kind": "lhs", "text": ""})
+            self.assertEqual(json.loads(started.get("start").body), {"kind": "lhs", "text": None})
             self.assertEqual(started.end(), (130, b"", b""))
 
     def test_kinds(self) -> None:
         for kind in ("lhs", "rhs", "rep"):
             started = Started(kind)
-            self.assertEqual(json.loads(started.get("start").body), {"kind": kind, "text": ""})
+            self.assertEqual(json.loads(started.get("start").body), {"kind": kind, "text": None})
             self.assertEqual(started.end()[0], 130)
+
+    def test_a_file_without_a_text(self) -> None:
+        started = Started("lhs", "/dev/null")
+        self.assertEqual(json.loads(started.get("start").body), {"kind": "lhs", "text": ""})
+        self.assertEqual(started.end()[0], 130)
+
+    def test_the_host_and_the_port(self) -> None:
+        with socket.create_server(("127.0.0.1", 0)) as taken:
+            port = taken.getsockname()[1]
+            found = program("page", "--port", str(port))
+            said = f"souper.page: port {port}: Address already in use\n"
+            self.assertEqual((found.returncode, found.stdout, found.stderr.decode()), (2, b"", said))
+        for words, host in (((), "127.0.0.1"), (("--host", "localhost"), "localhost"), (("--host", "127.0.0.1"), "127.0.0.1")):
+            # The port is free again at once.
+            started = Started("--port", str(port), *words, "rhs")
+            self.assertEqual((started.host, started.port, started.get("").status), (host, port, 200))
+            self.assertEqual(started.end(), (130, b"", b""))
 
     def test_it_listens_on_127_0_0_1_alone(self) -> None:
         started = Started()
@@ -512,10 +633,12 @@ class Program(unittest.TestCase):
             ):
                 found = program("page", *arguments, input=b"\xff")
                 self.assertEqual((found.returncode, found.stdout, found.stderr.decode()), (2, b"", said))
-        for arguments in (["left"], ["--port", "80"], ["lhs", "a", "b"]):
-            found = program("page", *arguments)
-            self.assertEqual((found.returncode, found.stdout), (2, b""))
-            self.assertTrue(found.stderr.startswith(b"usage: souper.page [-h] [--open] [KIND] [FILE]\n"), found)
+        usage = b"usage: souper.page [-h] [--open] [--host HOST] [--port PORT] [KIND] [FILE]\n"
+        for arguments in (["left"], ["--port", "http"], ["--port", "65536"], ["--port", "-1"], ["--port", "+80"], ["--port", "\u0663"],
+                          ["--host", "0.0.0.0"], ["--host", "::1"], ["--host", ""], ["lhs", "a", "b"]):
+            found = program("page", *arguments, COLUMNS="80")
+            self.assertEqual((found.returncode, found.stdout), (2, b""), arguments)
+            self.assertTrue(found.stderr.startswith(usage), found)
 
     def test_a_text_that_is_invalid_is_served(self) -> None:
         started = Started("lhs", ROOT / "examples/invalid.souper")

@@ -196,9 +196,8 @@ class Answers(unittest.TestCase):
         # The place is the one of the last byte before the offset, or of the first byte.
         *lines, last = record.text[: max(refusal.offset - 1, 0)].split(b"\n")
         self.assertEqual((refusal.line, refusal.column), (len(lines) + 1, len(last) + 1), record)
-        self.assertEqual(refusal.shown, record.answer.decode(), record)
-        self.assertEqual(str(refusal), refusal.shown, record)
-        self.assertTrue(refusal.shown.startswith(f"unknown:{refusal.line}:{refusal.column}: "))
+        place = f"unknown:{refusal.line}:{refusal.column}: {refusal.message}\n     |\n"
+        self.assertTrue(record.answer.decode().startswith(place), record)
         self.assertEqual(refusal.input, input, record)
         outcome = LIBRARY.souper_check(list(Kind).index(record.kind), record.text, len(record.text))
         self.assertEqual(refusal.offset, outcome.offset, record)
@@ -210,6 +209,14 @@ class Answers(unittest.TestCase):
             self.assertEqual(location.offset, len(record.text.rstrip(b" \t\n\f\r")), record)
         else:
             self.assertEqual(location.offset, refusal.offset, record)
+        source = record.text.split(b"\n")[location.line - 1]
+        if record.text.count(b"\n") >= location.line:
+            source = source.removesuffix(b"\r")
+        self.assertEqual(refusal.shown, (
+            f"unknown:{location.line}:{location.column}: {refusal.message}\n     |\n"
+            f"{location.line:>4} | {source.decode()}\n     | {' ' * (location.column - 1)}^"
+        ), record)
+        self.assertEqual(str(refusal), refusal.shown, record)
 
     def test_refusals(self) -> None:
         for record in REFUSED:
@@ -267,13 +274,27 @@ class Locations(unittest.TestCase):
         self.assert_located(Kind.RHS, "result 1\nresult", (15, 2, 7), True)
         self.assert_located(Kind.REP, "%x = var\ncand %x", (16, 2, 8), True)
 
-    def test_the_numbers_that_are_shown(self) -> None:
+    def test_the_numbers_of_the_byte_before(self) -> None:
         with self.assertRaises(souper.Refused) as raised:
             souper.read("lhs", "%x = var\n%x = var\ninfer %x")
         refusal = raised.exception
-        shown = (refusal.offset, refusal.line, refusal.column)
-        self.assertEqual((shown, refusal.args[1:]), ((9, 1, 9), (9, 1, 9, 0)))
+        numbers = (refusal.offset, refusal.line, refusal.column)
+        self.assertEqual((numbers, refusal.args[1:]), ((9, 1, 9), (9, 1, 9, 0)))
         self.assertEqual(repr(refusal.location), "Location(offset=9, line=2, column=1)")
+
+    def test_what_is_shown(self) -> None:
+        for text, line, column, source in (
+            ("%x = var\r\ninfer %q\r\n", 2, 7, "infer %q"),
+            ("%x = var\n%x = var\ninfer %x", 2, 1, "%x = var"),
+            ("%x = var ; é\ninfer", 2, 6, "infer"),
+            ("%x = var ; é\n\n \n", 1, 14, "%x = var ; é"),
+            ("5", 1, 1, "5"),
+        ):
+            with self.assertRaises(souper.Refused) as raised:
+                souper.format("lhs", text)
+            found = raised.exception
+            head = f"unknown:{line}:{column}: {found.message}\n     |\n"
+            self.assertEqual(str(found), f"{head}{line:>4} | {source}\n     | {' ' * (column - 1)}^")
 
     def test_out_of_memory_for_the_location(self) -> None:
         refused = _library.Outcome(status=1, offset=9, line=1, column=9)
@@ -306,9 +327,7 @@ class Streams(unittest.TestCase):
     )
 
     def told(self, refusal: souper.Refused) -> object:
-        # If the token at fault begins the segment, the line before is shown.
-        message = refusal.shown.split("\n")[0]
-        return message, refusal.args[1:], refusal.location, refusal.at_end
+        return refusal.shown, refusal.args[1:], refusal.location, refusal.at_end
 
     def wanted(self, kind: Kind, text: bytes) -> list[object]:
         """Each segment is read after as many blank bytes and lines as come before it."""
@@ -1316,7 +1335,7 @@ class Arguments(unittest.TestCase):
                 souper.format(record.kind, record.text)
             refusal = raised.exception
             place = f"unknown:{refusal.line}:{refusal.column}: {refusal.message}\n     |\n"
-            self.assertTrue(refusal.shown.startswith(place), record)
+            self.assertTrue(record.answer.decode().startswith(place), record)
 
     def test_flaws_of_a_newer_library(self) -> None:
         item = Item((Assignment("", None, Var()),), Infer(Value(0)))

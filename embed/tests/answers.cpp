@@ -1,5 +1,5 @@
 // Each stored answer through the C++ wrappers: strings, or exceptions with their text and place.
-#include "souper.hpp"
+#include "oracle.hpp"
 
 extern "C" {
 #include "records.h"
@@ -11,30 +11,34 @@ std::string_view view(const std::uint8_t *bytes, std::size_t length) {
     return {reinterpret_cast<const char *>(bytes), length};
 }
 
-// The exception of a call, by its text and its place.
-template <typename Call> bool is_refused(Call call, std::string_view shown, unsigned input) {
+// The exception of a call, by its place and by what it shows of the text.
+template <typename Call> bool is_refused(Call call, std::string_view text, std::string_view answer, unsigned input) {
     try {
         call();
         return false;
     } catch (const souper::refused &refusal) {
         const std::string head = "unknown:" + std::to_string(refusal.line) + ":" + std::to_string(refusal.column) + ": ";
         const std::string message = refusal.message();
-        return !message.empty() && shown.substr(head.size(), message.size()) == message && shown[head.size() + message.size()] == '\n'
+        if (!refusal.location) {
+            return false;
+        }
+        const std::string shown = oracle::located(answer, text, *refusal.location);
+        return !message.empty() && answer.substr(head.size(), message.size()) == message && answer[head.size() + message.size()] == '\n'
             && refusal.shown() == shown && refusal.what() == shown.substr(0, shown.find('\0')) && refusal.input == input
-            && refusal.offset + 1 >= refusal.column && shown.substr(0, head.size()) == head && refusal.location
+            && refusal.offset + 1 >= refusal.column && answer.substr(0, head.size()) == head
             && (refusal.at_end || refusal.location->offset == refusal.offset);
     }
 }
 
 void refusal(const Record &record, souper::kind kind, std::string_view text, std::string_view answer) {
-    expect(is_refused([&] { return souper::format(kind, text); }, answer, 0), "the exception of format", &record);
-    expect(is_refused([&] { return souper::check(kind, text); }, answer, 0), "the exception of check", &record);
-    expect(is_refused([&] { return souper::same(kind, text, {}); }, answer, 0), "the exception of same, first", &record);
-    expect(is_refused([&] { return souper::same(kind, {}, text); }, answer, 1), "the exception of same, second", &record);
+    expect(is_refused([&] { return souper::format(kind, text); }, text, answer, 0), "the exception of format", &record);
+    expect(is_refused([&] { return souper::check(kind, text); }, text, answer, 0), "the exception of check", &record);
+    expect(is_refused([&] { return souper::same(kind, text, {}); }, text, answer, 0), "the exception of same, first", &record);
+    expect(is_refused([&] { return souper::same(kind, {}, text); }, text, answer, 1), "the exception of same, second", &record);
     if (kind == souper::kind::rep) {
-        expect(is_refused([&] { return souper::find(text, "x"); }, answer, 0), "the exception of find, the store", &record);
+        expect(is_refused([&] { return souper::find(text, "x"); }, text, answer, 0), "the exception of find, the store", &record);
     } else if (kind == souper::kind::lhs) {
-        expect(is_refused([&] { return souper::find({}, text); }, answer, 1), "the exception of find, the queries", &record);
+        expect(is_refused([&] { return souper::find({}, text); }, text, answer, 1), "the exception of find, the queries", &record);
     }
 }
 
@@ -96,10 +100,10 @@ void long_answers() {
     const std::string name(2000, 'n');
     const std::string line = "%" + name + " = var infer %" + name + "x";
     const std::size_t column = line.size() - name.size() - 2;
-    const std::string shown = "unknown:1:" + std::to_string(column) + ": no value named '%" + name + "x' in scope\n     |\n   1 | " + line
+    const std::string answer = "unknown:1:" + std::to_string(column) + ": no value named '%" + name + "x' in scope\n     |\n   1 | " + line
         + "\n     | " + std::string(column - 1, ' ') + "^";
-    expect(is_refused([&] { return souper::format(souper::kind::lhs, line); }, shown, 0), "a long refusal", nullptr);
-    expect(is_refused([&] { return souper::same(souper::kind::lhs, "", line); }, shown, 1), "a long refusal of same", nullptr);
+    expect(is_refused([&] { return souper::format(souper::kind::lhs, line); }, line, answer, 0), "a long refusal", nullptr);
+    expect(is_refused([&] { return souper::same(souper::kind::lhs, "", line); }, line, answer, 1), "a long refusal of same", nullptr);
 }
 
 // Where a call finds a text at fault; nothing if it does not refuse it.
@@ -145,6 +149,15 @@ void locations() {
         expect(false, "the numbers that the refusal shows", nullptr);
     } catch (const souper::refused &refusal) {
         expect(refusal.offset == 9 && refusal.line == 1 && refusal.column == 9, "the numbers that the refusal shows", nullptr);
+    }
+    for (const auto &[text, shown] : {std::pair("%x = var\r\ninfer %q\r\n", "unknown:2:7: no value named '%q' in scope\n     |\n   2 | infer %q\n     |       ^"),
+                                      std::pair("%x = var ; \u00e9\n\n \n", "unknown:1:14: unexpected EOF\n     |\n   1 | %x = var ; \u00e9\n     |              ^")}) {
+        try {
+            souper::format(lhs, text);
+            expect(false, "what a refusal shows", nullptr);
+        } catch (const souper::refused &refusal) {
+            expect(refusal.what() == std::string_view(shown), "what a refusal shows", nullptr);
+        }
     }
     const SouperOutcome outcome = {SOUPER_REFUSED, 0, 5, 1, 1, 1};
     const souper::refused made("shown", outcome);

@@ -1,5 +1,5 @@
 // Each stored answer as values: read, coded, written, and its canonical items and records. Items that are built, by their texts.
-#include "souper.hpp"
+#include "oracle.hpp"
 
 extern "C" {
 #include "records.h"
@@ -105,19 +105,19 @@ void acceptance(const Record &record, kind k, std::string_view text, std::string
     keys(record, k, text, answer);
 }
 
-template <typename Call> bool is_refused(Call call, std::string_view shown) {
+template <typename Call> bool is_refused(Call call, std::string_view text, std::string_view answer) {
     try {
         call();
         return false;
     } catch (const souper::refused &refusal) {
-        return refusal.shown() == shown && refusal.input == 0;
+        return refusal.location && refusal.shown() == oracle::located(answer, text, *refusal.location) && refusal.input == 0;
     }
 }
 
 void refusal(const Record &record, kind k, std::string_view text, std::string_view answer) {
-    expect(is_refused([&] { return souper::read(k, text); }, answer), "the exception of read", &record);
-    expect(is_refused([&] { return souper::key(k, text); }, answer), "the exception of key", &record);
-    expect(is_refused([&] { return souper::records(k, text, true); }, answer), "the exception of records", &record);
+    expect(is_refused([&] { return souper::read(k, text); }, text, answer), "the exception of read", &record);
+    expect(is_refused([&] { return souper::key(k, text); }, text, answer), "the exception of key", &record);
+    expect(is_refused([&] { return souper::records(k, text, true); }, text, answer), "the exception of records", &record);
 }
 
 // Items that are built, and their texts.

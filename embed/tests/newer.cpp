@@ -163,6 +163,11 @@ void refusals() {
         expect(output.find("no") == std::string::npos || e.message == "no", "its message", nullptr);
         expect(output != "a: b\n\n\n" || e.message == "b", "a short message", nullptr);
     }
+    location = {SOUPER_REFUSED, 1, 4, 2, 3};
+    error e;
+    std::vector<item> items;
+    expect(!souper::try_read(kind::lhs, "x\nyz\r\n", items, e) && e.shown == "unknown:2:3: no\n     |\n   2 | yz\n     |   ^" && e.at_end,
+           "a refusal with a location", nullptr);
 }
 
 void operations() {

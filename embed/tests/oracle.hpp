@@ -1,5 +1,5 @@
 // What holds of any bytes as a code, by the decoder of souper.hpp, by souper_write, and by the checker of texts. A test returns
-// null, or what does not hold.
+// null, or what does not hold. And what an exception shows of a text.
 #ifndef ORACLE_HPP
 #define ORACLE_HPP
 
@@ -73,6 +73,21 @@ inline const char *writes(souper::kind k, const std::string &code) {
     default:
         return "a status of the list";
     }
+}
+
+// What is shown of a text that is at fault there, by the output of souper_format for it.
+inline std::string located(std::string_view output, std::string_view text, const souper::location &at) {
+    const std::size_t place = output.find(": ") + 2, frame = output.find("\n     |\n", place);
+    for (std::size_t line = 1; line < at.line; line++) {
+        text.remove_prefix(text.find('\n') + 1);
+    }
+    std::string source(text.substr(0, text.find('\n')));
+    if (source.size() < text.size() && !source.empty() && source.back() == '\r') {
+        source.pop_back();
+    }
+    const std::string number = std::to_string(at.line), width(number.size() < 4 ? 4 - number.size() : 0, ' ');
+    return "unknown:" + number + ":" + std::to_string(at.column) + ": " + std::string(output.substr(place, frame - place)) + "\n     |\n" + width
+        + number + " | " + source + "\n     | " + std::string(at.column - 1, ' ') + "^";
 }
 
 } // namespace oracle

@@ -71,21 +71,6 @@ strings in_parts(kind k, std::string_view text, const std::vector<std::size_t> &
     return found;
 }
 
-// The same, but for the line that is shown, if it is blank in what is wanted: that of a fault at the beginning of a segment, which
-// is the line before.
-bool alike(const std::string &found, const std::string &wanted) {
-    const std::size_t bar = wanted.find(" | ", wanted.find("     |\n") + 1), end = wanted.find('\n', bar);
-    if (found == wanted || wanted.substr(0, 8) != "refused " || wanted.find_first_not_of(' ', bar + 3) != end) {
-        return found == wanted;
-    }
-    return found.substr(0, bar) == wanted.substr(0, bar) && found.substr(found.rfind('\n')) == wanted.substr(end);
-}
-
-bool alike(const strings &found, const strings &wanted) {
-    return std::equal(found.begin(), found.end(), wanted.begin(), wanted.end(),
-                      [](const std::string &a, const std::string &b) { return alike(a, b); });
-}
-
 std::string blank(std::string text) {
     for (char &byte : text) {
         byte = byte == '\n' ? '\n' : ' ';
@@ -139,13 +124,13 @@ void cuts() {
         const strings wanted = by_segments(k, text);
         bool same = true;
         for (std::size_t cut = 0; cut <= text.size(); cut++) {
-            same = same && alike(in_parts(k, text, {cut}), wanted);
+            same = same && in_parts(k, text, {cut}) == wanted;
         }
         expect(same, "each text in two parts", nullptr);
-        expect(alike(in_parts(k, text, {}), wanted), "a text in one part", nullptr);
-        expect(alike(in_parts(k, text, each_byte(text)), wanted), "a text byte by byte", nullptr);
-        expect(alike(in_parts(k, text, each_byte(text), true), wanted), "a text byte by byte, by segments", nullptr);
-        expect(alike(in_parts(k, text, {}, true), wanted), "a text in one part, by segments", nullptr);
+        expect(in_parts(k, text, {}) == wanted, "a text in one part", nullptr);
+        expect(in_parts(k, text, each_byte(text)) == wanted, "a text byte by byte", nullptr);
+        expect(in_parts(k, text, each_byte(text), true) == wanted, "a text byte by byte, by segments", nullptr);
+        expect(in_parts(k, text, {}, true) == wanted, "a text in one part, by segments", nullptr);
     }
     expect(by_segments(kind::lhs, lhs).size() == 9, "the long text's items and refusals", nullptr);
 }
@@ -162,7 +147,7 @@ void splits() {
                 at.push_back(i);
             }
         }
-        same = same && alike(in_parts(kind::rhs, text, at), wanted);
+        same = same && in_parts(kind::rhs, text, at) == wanted;
     }
     expect(same, "each split of a small text", nullptr);
 }
@@ -183,12 +168,12 @@ void random_cuts(unsigned long count) {
             at.push_back(random() % text.size());
         }
         std::sort(at.begin(), at.end());
-        same = same && alike(in_parts(kind::lhs, text, at, i % 5 == 0), wanted);
+        same = same && in_parts(kind::lhs, text, at, i % 5 == 0) == wanted;
     }
     expect(same, "random cuts", nullptr);
 }
 
-// A segment that begins with the token at fault: the place is in the line before. It is that of the whole text.
+// A segment that begins with the token at fault: the byte before is in the line before. It is that of the whole text.
 void fault_first() {
     for (const char *const end : {"\n", "\r\n"}) {
         const std::string text = std::string("%x = var") + end + "infer %x (demandedBits=01)" + end + "result %x" + end;
@@ -353,7 +338,7 @@ void answers(const Record *records, std::size_t count) {
             at.push_back(cut);
         }
         const strings found = in_parts(k, text, at);
-        expect(found.size() > 50 && alike(found, wanted), "the stored texts as a stream", nullptr);
+        expect(found.size() > 50 && found == wanted, "the stored texts as a stream", nullptr);
     }
 }
 

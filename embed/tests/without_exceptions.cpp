@@ -63,7 +63,7 @@ void refused() {
     expect(!souper::try_format(kind::lhs, bad, out, e) && out.empty() && e.what == status::refused, "format", nullptr);
     const error wanted = e;
     expect(wanted.offset > 0 && wanted.line == 2 && wanted.column > 0
-               && wanted.shown.find("unknown value '%z'") != std::string::npos,
+               && wanted.shown == "unknown:2:4: unknown value '%z'\n     |\n   2 | pc %z 1\n     |    ^",
            "what a refusal shows", nullptr);
     expect(wanted.message == "unknown value '%z'" && souper::to_string(wanted) == wanted.shown, "its message", nullptr);
     expect(wanted.location == souper::location{12, 2, 4} && !wanted.at_end, "its location", nullptr);

@@ -23,10 +23,11 @@ NUMBERS = "zero one two three four five six seven eight nine ten eleven twelve t
 PASSED = FAILED = 0
 
 # What INSTALL says that the tarball and the package of Debian have, by the paths in the tarball.
-PROGRAMS = {"bin/souper_fmt", "bin/souper_items"}
+COMMANDS = ("souper-draw", "souper-page")
+PROGRAMS = {f"bin/{name}" for name in ("souper_fmt", "souper_items", *COMMANDS)}
 WANTED = {
     *PROGRAMS,
-    *(f"share/man/man1/{name}.1.gz" for name in ("souper_fmt", "souper_items")),
+    *(f"share/man/man1/{name}.1.gz" for name in ("souper_fmt", "souper_items", *COMMANDS)),
     *(f"share/bash-completion/completions/{name}" for name in ("souper_fmt", "souper_items")),
     *(f"share/zsh/site-functions/_{name}" for name in ("souper_fmt", "souper_items")),
     *(f"lib/{name}" for name in ("libsouper_c.a", "libsouper_heap.a", "libsouper_c.so", "libsouper_c.so.1", f"libsouper_c.so.{VERSION}")),
@@ -107,6 +108,11 @@ def trees(tarball, debian, wheel, crate):
     part = lambda prefix: {path.removeprefix(prefix) for path in held if path.startswith(prefix)}
     holds("the module of the wheel", part("python/souper/"), {path.removeprefix("souper/") for path in files(wheel) if path.startswith("souper/")})
     holds("the crate", part("rust/souper-ir-proved/") | {"LICENSE", "NOTICE"}, files(crate))
+    scripts = re.findall(r"^(\S+) = souper\.\w+:command$", one(wheel, "*.dist-info/entry_points.txt").read_text(), re.MULTILINE)
+    holds("the commands of the wheel", sorted(COMMANDS), sorted(scripts))
+    pages = tarball / "share/doc/sefgrun"
+    named = {name for path in pages.rglob("*.md") for name in re.findall(r"(?<![\w/.])(?:embed/)?examples/[\w./-]*\w", path.read_text())}
+    holds("examples that the pages name and the packages lack", [], sorted(name for name in named if not (pages / name).exists()))
     for top in filter(None, (tarball, debian)):
         links = [path for path in top.rglob("*") if path.is_symlink()]
         holds("links that lead out of a package, or nowhere", [], [path for path in links if not path.exists() or top not in path.resolve().parents])
@@ -142,6 +148,7 @@ def versions(tarball, debian, wheel, crate):
         ("souper.__version__", r'^__version__ = "(.*)"$', (tarball / "python/souper/__init__.py").read_text()),
         ("souper_fmt.1", r'"Sefgrun (.*?)"', page(tarball, "souper_fmt")),
         ("souper_items.1", r'"Sefgrun (.*?)"', page(tarball, "souper_items")),
+        *((f"{name}.1", r'"Sefgrun (.*?)"', page(tarball, name)) for name in COMMANDS),
     ]
     control = printed("dpkg-deb", "-f", debian) if debian else ""
     if debian:
@@ -152,7 +159,8 @@ def versions(tarball, debian, wheel, crate):
     holds("the version of Python that the wheel needs", [f">={python}"], re.findall(r"^Requires-Python: (.*)$", metadata, re.MULTILINE))
     holds("the version of Rust", [rust], re.findall(r'^rust-version = "(.*)"$', manifest, re.MULTILINE))
     if debian:
-        holds("the version of Python that Debian's package suggests", True, f"python3 (>= {python})" in control)
+        suggested = re.search(r"^Suggests: (.*)$", control, re.MULTILINE)[1].split(", ")
+        holds("what Debian's package suggests for pictures", True, {f"python3 (>= {python})", "graphviz"} <= set(suggested))
         needed = tuple(map(int, re.search(r"libc6 \(>= (\d+)\.(\d+)\)", control).groups()))
         holds("whether Debian 12 suffices and Debian 11 does not, by their C libraries", True, (2, 31) < needed <= (2, 36))
 

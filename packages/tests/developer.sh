@@ -47,6 +47,11 @@ wheel_runs_an_example() {
     in_venv python -W error embed/python/examples/histogram.py lhs examples/first.souper examples/second.souper | cmp - <(printf '       1 add\n')
 }
 
+wheel_has_commands() {
+    (cd / && in_venv souper-draw lhs "$REPOSITORY/examples/first.souper") | grep -q '^digraph souper {$' \
+        && (cd / && python3 "$HERE/page.py" "$REPOSITORY/examples/first.souper" "$CASES/venv/bin/souper-page")
+}
+
 wheel_leaves() {
     in_venv pip uninstall -y sefgrun && [ -z "$(find "$CASES/venv" -name '*souper*' -o -name '*sefgrun*')" ]
 }
@@ -89,6 +94,7 @@ holds "Python compiled the module" ls /usr/lib/python3/dist-packages/souper/__py
 holds "the wheel" wheel_installs
 holds "the wheel, records" wheel_answers
 holds "the wheel, an example" wheel_runs_an_example
+holds "the wheel, its commands" wheel_has_commands
 holds "the wheel is uninstalled" wheel_leaves
 holds "a wheel with another byte" wheel_refused
 holds "a wheel for a later C library" for_another_system

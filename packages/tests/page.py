@@ -1,6 +1,6 @@
 """Tests that the page of the installed module is served: with its token alone, until it is interrupted.
 
-    page.py FILE    a file of left-hand sides
+    page.py FILE COMMAND...    a file of left-hand sides, and the command that serves the page
 
 In a root without a network it first turns the loopback device on."""
 import fcntl
@@ -35,7 +35,7 @@ def main():
     turn_on_loopback()
     # A shell without job control has what it starts by & ignore the signal, and a program inherits that.
     signal.signal(signal.SIGINT, signal.default_int_handler)
-    server = subprocess.Popen([sys.executable, "-W", "error", "-m", "souper.page", "lhs", sys.argv[1]], stdout=subprocess.PIPE, text=True)
+    server = subprocess.Popen([*sys.argv[2:], "lhs", sys.argv[1]], stdout=subprocess.PIPE, text=True)
     try:
         address = re.search(r"http://127\.0\.0\.1:\d+/\S*", server.stdout.readline())[0]
         code, text = status(address)

@@ -12,15 +12,21 @@ DOC=$PREFIX/share/doc/sefgrun
 RECORDS=$REPOSITORY/crates/replay_answers/stdin
 cd "$CASES" || exit 2
 
+helps() { # program: its help, for souper_items that of each command
+    local command
+    case $1 in
+    souper_fmt) ;;
+    souper_items) for command in format uniq find check; do souper_items $command --help; done ;;
+    *) "$1" --help ;;
+    esac
+}
+
 page() { # program: its page is found, without a warning, and has the options of each command
-    local text command option
+    local text option
     text=$(MANWIDTH=200 man --warnings "$1" 2>"$1.warnings" | col -b) && [ ! -s "$1.warnings" ] || { cat "$1.warnings" && return 1; }
     grep -q "^SYNOPSIS" <<<"$text" || return 1
-    [ "$1" = souper_fmt ] && return
-    for command in format uniq find check; do
-        for option in $(souper_items $command --help | grep -o '^ .*--[a-z-]*' | grep -o -- '--[a-z-]*'); do
-            grep -q -- "$option" <<<"$text" || { echo "the page has no $option" && return 1; }
-        done
+    for option in $(helps "$1" | grep -o '^ .*--[a-z-]*' | grep -o -- '--[a-z-]*'); do
+        grep -q -- "$option" <<<"$text" || { echo "the page has no $option" && return 1; }
     done
 }
 
@@ -122,9 +128,14 @@ python_records() { # the module writes the records that the program writes
     (cd / && python3 -W error -c "$program") <"$input" | cmp - <(souper_items format --rename lhs "$input")
 }
 
-python_page() { (cd / && python3 "$HERE/page.py" "$REPOSITORY/examples/first.souper"); }
+python_page() { (cd / && python3 "$HERE/page.py" "$REPOSITORY/examples/first.souper" "$@"); }
 
-python_draws() { (cd / && python3 -W error -m souper.draw lhs "$REPOSITORY/examples/first.souper") | grep -q '^digraph souper {$'; }
+# In a folder with another module of this name.
+python_draws() {
+    mkdir -p other && echo 'raise SystemExit("another module")' >other/souper.py && (cd other && souper-draw lhs "$REPOSITORY/examples/first.souper") \
+        | diff - <(cd / && python3 -W error -m souper.draw lhs "$REPOSITORY/examples/first.souper") || return 1
+    (cd other && refused '^souper-draw: /nowhere: No such file' souper-draw lhs /nowhere)
+}
 
 rust_project() { # a project that names the crate by its path; cargo has no registry and no network
     local at=$CASES/project profile
@@ -157,8 +168,12 @@ holds "the archive over another heap" own_heap
 holds "Python, the README's sample" python_sample
 holds "Python, the records of souper_items" python_records
 if [ -e "$PYTHON/souper/page.py" ]; then
-    holds "Python, the page" python_page
+    holds "Python, the page" python_page python3 -W error -m souper.page
+    holds "Python, the page by its command" python_page souper-page
     holds "Python, a picture" python_draws
+    if command -v man >/dev/null; then
+        for program in souper-draw souper-page; do holds "man $program" page $program; done
+    fi
 fi
 holds "a Rust project" rust_project
 ended

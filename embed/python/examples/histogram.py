@@ -17,6 +17,13 @@ from pathlib import Path
 import souper
 
 
+def shown(text: str) -> str:
+    """The text; at a terminal without what that may obey."""
+    if not sys.stderr.isatty():
+        return text
+    return "".join(c if c.isprintable() else "\ufffd" for c in text)
+
+
 def texts(kind: str, paths: Iterable[Path]) -> Counter[str]:
     """The canonical text of each distinct item, with the names %0, %1, .., and its count."""
     found: Counter[str] = Counter()
@@ -25,7 +32,7 @@ def texts(kind: str, paths: Iterable[Path]) -> Counter[str]:
             records = souper.records(kind, path.read_bytes(), rename=True)
         except souper.Refused as refusal:
             _, line, column = refusal.location or (0, refusal.line, refusal.column)
-            sys.exit(f"{path}:{line}:{column}: {refusal.message}")
+            sys.exit(shown(f"{path}:{line}:{column}: {refusal.message}"))
         found.update(record.text for record in records)
     return found
 

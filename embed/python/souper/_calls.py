@@ -9,7 +9,7 @@ from typing import Any, NamedTuple
 from . import _library
 from ._checks import check_type, documented
 from ._code import decode, encode
-from ._errors import Flaw, FlawReason, Location, NotWellFormed, Refused
+from ._errors import Flaw, FlawReason, Location, NotWellFormed, Refused, four_lines
 from ._library import DIFFERENT, DONE, NOT_UTF8, NOT_WELL_FORMED, OUT_OF_MEMORY, REFUSED, SHORT
 from ._library import KEY, NUL, NUMBERS, RENAME, Outcome
 from ._values import Assignment, Item, Kind
@@ -39,14 +39,22 @@ def _formatted(kind: Kind, data: bytes) -> tuple[Outcome, bytes]:
     return _written(_library.LIBRARY.souper_format, (NUMBERS[kind],), data, room)
 
 
+def _line_at(data: bytes, offset: int) -> str:
+    """The line of a byte of a text, without its line end."""
+    begin, end = data.rfind(b"\n", 0, offset) + 1, data.find(b"\n", offset)
+    line = data[begin:] if end < 0 else data[begin:end].removesuffix(b"\r")
+    return line.decode()
+
+
 def _refused(kind: Kind, outcome: Outcome, data: bytes, shown: bytes) -> Refused:
-    found = _library.LIBRARY.souper_locate(NUMBERS[kind], data, len(data))
-    location, at_end = None, False
-    if found.status == REFUSED:
-        location = Location(found.offset, found.line, found.column)
-        at_end = found.at_end == 1
     numbers = (outcome.offset, outcome.line, outcome.column, outcome.input)
-    return Refused(shown.decode(), *numbers, location, at_end)
+    refusal = Refused(shown.decode(), *numbers)
+    found = _library.LIBRARY.souper_locate(NUMBERS[kind], data, len(data))
+    if found.status != REFUSED:
+        return refusal
+    location = Location(found.offset, found.line, found.column)
+    located = four_lines(refusal.message, *location[1:], _line_at(data, location.offset))
+    return Refused(located, *numbers, location, found.at_end == 1)
 
 
 def _failure(kind: Kind, outcome: Outcome, data: bytes, shown: bytes) -> Exception:
@@ -84,10 +92,10 @@ def read(kind: Kind | str, text: str | bytes) -> list[Item]:
     >>> read("lhs", "infer %x")
     Traceback (most recent call last):
         ...
-    souper.Refused: unknown:1:6: no value named '%x' in scope
+    souper.Refused: unknown:1:7: no value named '%x' in scope
          |
        1 | infer %x
-         |      ^
+         |       ^
     """
     kind, data = Kind(kind), _utf8(text)
     room = 3 * len(data) + 256

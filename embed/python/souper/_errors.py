@@ -27,12 +27,19 @@ class Location(NamedTuple):
     column: int
 
 
+def four_lines(message: str, line: int, column: int, source: str) -> str:
+    """What a parse error shows: why and where, the line, and a caret below the column."""
+    caret = " " * (column - 1) + "^"
+    return f"unknown:{line}:{column}: {message}\n     |\n{line:>4} | {source}\n     | {caret}"
+
+
 class Refused(ValueError):
     """A text spells no list of items of the kind.
 
     Its fields:
 
-    shown: why and where, in four lines without a newline at the end; `str` of it.
+    shown: why and where, in four lines without a newline at the end; `str` of it. Where is the
+        `location` or, without one, `line` and `column`.
     message: why, alone.
     location: where the text is at fault; `None` if memory ran out for it.
     at_end: whether the text ended where more is wanted; `False` without a location.

@@ -11,20 +11,13 @@ import os
 import sys
 from collections.abc import Callable
 from pathlib import Path
-from typing import Any
+from typing import Any, NoReturn
 
+from . import _terminal
 from ._errors import Refused
 from ._values import Kind
 
 INVALID, FAILED, INTERRUPTED, NOBODY_READS = 1, 2, 130, 141
-
-# As `souper_items` shows an error at a terminal: what the terminal may obey is another character.
-_VISIBLE = {
-    **{code: 0x2400 + code for code in range(0x20) if code != 0x0A},
-    0x7F: 0x2421,
-    **dict.fromkeys((*range(0x80, 0xA0), *range(0x202A, 0x202F), *range(0x2066, 0x206A)), 0xFFFD),
-}
-
 
 class Failure(Exception):
     """Why a program ends: a message and its status."""
@@ -32,6 +25,22 @@ class Failure(Exception):
     def __init__(self, message: str, status: int = FAILED) -> None:
         super().__init__(message)
         self.status = status
+
+
+def name(module: str) -> str:
+    """The name of a program: of its command, if that was called, or of its module."""
+    command = f"souper-{module}"
+    return command if Path(sys.argv[0]).name == command else f"souper.{module}"
+
+
+class Parser(argparse.ArgumentParser):
+    """A parser of arguments, which it shows at a terminal as the programs show a text."""
+
+    def exit(self, status: int = 0, message: str | None = None) -> NoReturn:
+        sys.stderr.flush()
+        if message:
+            _say(message.removesuffix("\n"))
+        sys.exit(status)
 
 
 def add_kind(parser: argparse.ArgumentParser, default: str | None = None) -> None:
@@ -63,14 +72,17 @@ def not_utf8(name: str, error: UnicodeDecodeError) -> Failure:
     return Failure(f"{name}: not UTF-8 at byte {error.start}")
 
 
-def run(program: str, main: Callable[[], None]) -> None:
-    """Runs a program, and ends it with its status."""
+def run(module: str, main: Callable[[], None]) -> None:
+    """Runs the program of a module, and ends it with its status."""
+    program = name(module)
     try:
         main()
         sys.stdout.flush()
     except Failure as failure:
-        text = f"{failure}" if failure.status == INVALID else f"{program}: {failure}"
-        _say(text)
+        if failure.status == INVALID:
+            _say(str(failure), _terminal.parse_error)
+        else:
+            _say(f"{program}: {failure}")
         sys.exit(failure.status)
     except MemoryError:
         _say(f"{program}: out of memory")
@@ -91,6 +103,6 @@ def _drop_output() -> None:
     os.dup2(os.open(os.devnull, os.O_WRONLY), sys.stdout.fileno())
 
 
-def _say(text: str) -> None:
-    shown = text.translate(_VISIBLE) if sys.stderr.isatty() else text
+def _say(text: str, at_terminal: Callable[[str], str] = _terminal.message) -> None:
+    shown = at_terminal(text) if sys.stderr.isatty() else text
     sys.stderr.buffer.write(shown.encode("utf-8", "surrogateescape") + b"\n")

@@ -9,7 +9,7 @@ from typing import BinaryIO, NoReturn
 from . import _library
 from ._calls import read
 from ._checks import check_type
-from ._errors import Location, NotUtf8, Refused
+from ._errors import Location, NotUtf8, Refused, four_lines
 from ._library import DONE, NOT_UTF8, NUMBERS, Outcome
 from ._values import Item, Kind
 
@@ -205,18 +205,18 @@ class Reader:
 
     def _placed(self, refusal: Refused) -> Refused:
         """The refusal of a segment, with its place and its location in the stream."""
-        message = refusal.message
-        text = refusal.shown.rsplit("\n", 2)[1].partition(" | ")[2]
+        at = refusal.location
+        source = refusal.shown.rsplit("\n", 2)[1].partition(" | ")[2]
         number, column = refusal.line + self._lines, refusal.column
         if refusal.offset == 0 and self._bytes:
             # The byte before is the newline of the line before.
             number, column = self._lines, len(self._last_line)
-            text = self._last_line.decode().removesuffix("\n").removesuffix("\r")
-        at = refusal.location
+            if at is None:
+                source = self._last_line.decode().removesuffix("\n").removesuffix("\r")
         if at is not None:
             at = Location(at.offset + self._bytes, at.line + self._lines, at.column)
-        mark = " " * (column - 1) + "^"
-        shown = f"unknown:{number}:{column}: {message}\n     |\n{number:>4} | {text}\n     | {mark}"
+        place = at[1:] if at is not None else (number, column)
+        shown = four_lines(refusal.message, *place, source)
         offset = refusal.offset + self._bytes
         return Refused(shown, offset, number, column, refusal.input, at, refusal.at_end)
 

@@ -11,7 +11,6 @@ items are clusters of one picture.
 
 from __future__ import annotations
 
-import argparse
 import shutil
 import subprocess
 import sys
@@ -148,8 +147,8 @@ def _quoted(text: str) -> str:
 
 
 def _main() -> None:
-    parser = argparse.ArgumentParser(
-        prog="souper.draw",
+    parser = _programs.Parser(
+        prog=_programs.name("draw"),
         description="Draws the graphs of Souper IR: the needed statements and their uses.",
         epilog="Status: 0, done; 1, the text is invalid; 2, usage, I/O, memory, or no dot.",
     )
@@ -173,5 +172,10 @@ def _main() -> None:
     sys.stdout.buffer.write(drawn.encode())
 
 
+def command() -> None:
+    """Runs the program."""
+    _programs.run("draw", _main)
+
+
 if __name__ == "__main__":
-    _programs.run("souper.draw", _main)
+    command()

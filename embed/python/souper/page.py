@@ -1,11 +1,12 @@
 """A page that shows what Souper IR is: its canonical text, its keys and its graph.
 
-    python3 -m souper.page [--open] [KIND [FILE]]
+    python3 -m souper.page [--open] [--host HOST] [--port PORT] [KIND [FILE]]
 
 It prints the address of the page, and serves it until ^C. A browser on this computer alone reaches
-it: the server listens on 127.0.0.1, at a port that the system chooses. The address has a token that
-nobody can guess. A request without it is answered 404, and one that another page made, or that was
-made under another name of the host, 403.
+it: the server listens on 127.0.0.1, at a port that the system chooses if none is given. The address
+has a token that nobody can guess. A request without it is answered 404, and one that another page
+made, or that was made under another name of the host, 403. The host's name is 127.0.0.1 or, with
+``--host localhost``, localhost, as for a port that ssh forwards.
 """
 
 from __future__ import annotations
@@ -21,6 +22,7 @@ import sys
 import threading
 import webbrowser
 from collections.abc import Callable
+from functools import partial
 from http import HTTPStatus
 from http.server import BaseHTTPRequestHandler, ThreadingHTTPServer
 from pathlib import Path
@@ -29,14 +31,18 @@ from typing import Any, TypeAlias
 
 from . import _programs
 from ._calls import format, records
+from ._differences import rows
 from ._errors import Location, Refused
 from ._pictures import Box, pictures
 from ._values import Kind
+from .draw import dot
 
 __all__ = ["PageServer"]
 
 Json: TypeAlias = dict[str, Any]
 
+ADDRESS = "127.0.0.1"
+HOSTS = (ADDRESS, "localhost")
 GREATEST_BODY = 1 << 20
 _DISCARDED = 1 << 26
 _PAGE = Path(__file__).with_name("page.html")
@@ -47,14 +53,27 @@ class BadQuestion(ValueError):
 
 
 def answer(question: object) -> Json:
-    """What the page shows for a kind and one or two texts: the first one's item, and whether the
-    second has the same graphs. A text that is not valid is an error in the answer.
+    """What the page shows for a kind and one or two texts: the first one's item, what of it is not
+    canonical, and whether the second has the same graphs. A text that is not valid is an error in
+    the answer.
     """
     kind, texts, item = _parts(question)
     found: Json = {"texts": [_shown(kind, text, item) for text in texts], "compared": None}
     if len(texts) == 2 and not any("error" in one for one in found["texts"]):
         found["compared"] = _compared(kind, *texts)
     return found
+
+
+def graph(question: object) -> Json:
+    """An item of a valid text in DOT."""
+    kind, texts, item = _parts(question)
+    try:
+        found = records(kind, texts[0])
+    except Refused:
+        found = []
+    if item >= len(found):
+        raise BadQuestion("the text has no such item")
+    return {"dot": dot(kind, found[item].text)}
 
 
 def _parts(question: object) -> tuple[Kind, list[str], int]:
@@ -79,6 +98,7 @@ def _shown(kind: Kind, text: str, item: int) -> Json:
         "count": len(found),
         "text": canonical,
         "canonical": canonical == text,
+        "changes": rows(text, canonical),
         "item": item,
         "key": found[item].key,
         "renamed": records(kind, found[item].text, rename=True)[0].key,
@@ -108,16 +128,20 @@ def _error(refusal: Refused, text: str) -> Json:
 
 
 def _compared(kind: Kind, first: str, second: str) -> Json:
-    """Whether two valid texts have the same graphs, modulo renaming too, and which item differs."""
-    one, other = ([record.text for record in records(kind, text)] for text in (first, second))
-    pairs = enumerate(zip(one, other))
-    differing = (number for number, (a, b) in pairs if a != b)
-    renamed = (records(kind, text, rename=True) for text in (first, second))
-    return {
-        "same": one == other,
-        "renamed": next(renamed) == next(renamed),
-        "item": next(differing, min(len(one), len(other))),
-    }
+    """Whether two valid texts have the same graphs, modulo renaming too, and what differs first: an
+    item's graph or, if all are the same modulo renaming, its names.
+    """
+    one, other = (_texts(kind, text) for text in (first, second))
+    renamed = tuple(_texts(kind, text, rename=True) for text in (first, second))
+    are_renamed = renamed[0] == renamed[1]
+    pairs = enumerate(zip(one, other) if are_renamed else zip(*renamed))
+    item = next((number for number, (a, b) in pairs if a != b), min(len(one), len(other)))
+    items = ("".join(texts[item : item + 1]) for texts in (one, other))
+    return {"same": one == other, "renamed": are_renamed, "item": item, "rows": rows(*items)}
+
+
+def _texts(kind: Kind, text: str, rename: bool = False) -> list[str]:
+    return [record.text for record in records(kind, text, rename=rename)]
 
 
 def _policy(page: str) -> str:
@@ -143,17 +167,29 @@ def _policy(page: str) -> str:
 
 
 class PageServer(ThreadingHTTPServer):
-    """The page's server, with the kind and the text that the page begins with."""
+    """The page's server, with the kind and the text that the page begins with: an example, if the
+    text is `None`. The port is chosen, if it is 0.
+    """
 
     daemon_threads = True
 
-    def __init__(self, kind: Kind | str = Kind.LHS, text: str = "") -> None:
-        super().__init__(("127.0.0.1", 0), _Handler)
+    def __init__(
+        self,
+        kind: Kind | str = Kind.LHS,
+        text: str | None = None,
+        *,
+        host: str = ADDRESS,
+        port: int = 0,
+    ) -> None:
+        if host not in HOSTS:
+            raise ValueError(f"the host is {' or '.join(HOSTS)}")
         self.start: Json = {"kind": Kind(kind).value, "text": text}
         self.page = _PAGE.read_bytes()
         self.policy = _policy(self.page.decode())
         self.token = secrets.token_urlsafe(32)
-        self.host = f"127.0.0.1:{self.server_port}"
+        super().__init__((ADDRESS, port), _Handler)
+        # As a browser writes it.
+        self.host = host if self.server_port == 80 else f"{host}:{self.server_port}"
 
     @property
     def address(self) -> str:
@@ -163,7 +199,7 @@ class PageServer(ThreadingHTTPServer):
     def server_bind(self) -> None:
         # HTTPServer's would look up the host's name.
         TCPServer.server_bind(self)
-        self.server_name, self.server_port = "127.0.0.1", self.server_address[1]
+        self.server_name, self.server_port = ADDRESS, self.server_address[1]
 
     def handle_error(self, request: Any, client_address: Any) -> None:
         # A browser may close a connection at any time.
@@ -183,14 +219,15 @@ class _Handler(BaseHTTPRequestHandler):
         self._answer({"": self._send_page, "start": self._send_start})
 
     def do_POST(self) -> None:
-        self._answer({"ask": self._ask})
+        answers = {"ask": answer, "dot": graph}
+        self._answer({path: partial(self._ask, asked) for path, asked in answers.items()})
 
     def _answer(self, answers: dict[str, Callable[[], None]]) -> None:
         """Answers by the path after the token, if the request is one of the page's own."""
         if not self._is_ours():
             return self._refuse(HTTPStatus.FORBIDDEN)
         path = self._path()
-        if path not in ("", "start", "ask"):
+        if path not in ("", "start", "ask", "dot"):
             return self._refuse(HTTPStatus.NOT_FOUND)
         if path not in answers:
             return self._refuse(HTTPStatus.METHOD_NOT_ALLOWED)
@@ -219,7 +256,7 @@ class _Handler(BaseHTTPRequestHandler):
     def _send_start(self) -> None:
         self._send_json(self.server.start)
 
-    def _ask(self) -> None:
+    def _ask(self, asked: Callable[[object], Json]) -> None:
         length = self.headers.get("Content-Length", "")
         if self.headers.get_content_type() != "application/json":
             return self._refuse(HTTPStatus.UNSUPPORTED_MEDIA_TYPE)
@@ -229,7 +266,7 @@ class _Handler(BaseHTTPRequestHandler):
             self._refuse(HTTPStatus.REQUEST_ENTITY_TOO_LARGE, "The texts are longer than 1 MiB.")
             return self._discard(min(int(length), _DISCARDED))
         try:
-            found = answer(json.loads(self.rfile.read(int(length)).decode()))
+            found = asked(json.loads(self.rfile.read(int(length)).decode()))
         except UnicodeError:
             return self._refuse(HTTPStatus.BAD_REQUEST, "The text is not UTF-8.")
         except BadQuestion as error:
@@ -275,9 +312,15 @@ class _Handler(BaseHTTPRequestHandler):
         """Nothing: a line of a log would have the token."""
 
 
-def _main() -> None:
-    parser = argparse.ArgumentParser(
-        prog="souper.page",
+def _port(word: str) -> int:
+    if re.fullmatch("[0-9]{1,5}", word) and int(word) < 1 << 16:
+        return int(word)
+    raise argparse.ArgumentTypeError("a port is a number from 0 to 65535")
+
+
+def _parser() -> argparse.ArgumentParser:
+    parser = _programs.Parser(
+        prog=_programs.name("page"),
         description="Serves a page that shows the canonical text, keys and graph of Souper IR.",
         epilog="It prints the page's address, for a browser on this computer; ^C ends it. "
         "Status: 130, ^C; 2, usage, I/O or memory.",
@@ -287,22 +330,48 @@ def _main() -> None:
         action="store_true",
         help="open the page in the browser, whose command line then has the address",
     )
+    parser.add_argument(
+        "--host",
+        choices=HOSTS,
+        default=ADDRESS,
+        metavar="HOST",
+        help="the name of this computer in the address: 127.0.0.1 (the default) or localhost",
+    )
+    parser.add_argument(
+        "--port",
+        type=_port,
+        default=0,
+        metavar="PORT",
+        help="the port of the address; without one, or for 0, the system chooses it",
+    )
     _programs.add_kind(parser, default="lhs")
     parser.add_argument(
         "file",
         nargs="?",
         metavar="FILE",
-        help="the text that the page begins with; for `-`, standard input",
+        help="the text that the page begins with, else an example; for `-`, standard input",
     )
-    arguments = parser.parse_args()
-    text = ""
-    if arguments.file is not None:
-        name, data = _programs.source(arguments.file)
-        try:
-            text = data.decode()
-        except UnicodeDecodeError as error:
-            raise _programs.not_utf8(name, error) from None
-    with PageServer(arguments.kind, text) as server:
+    return parser
+
+
+def _text(path: str | None) -> str | None:
+    if path is None:
+        return None
+    name, data = _programs.source(path)
+    try:
+        return data.decode()
+    except UnicodeDecodeError as error:
+        raise _programs.not_utf8(name, error) from None
+
+
+def _main() -> None:
+    arguments = _parser().parse_args()
+    kind, text, port = arguments.kind, _text(arguments.file), arguments.port
+    try:
+        server = PageServer(kind, text, host=arguments.host, port=port)
+    except OSError as error:
+        raise _programs.Failure(f"port {port}: {error.strerror or error}") from error
+    with server:
         print(server.address, flush=True)
         if arguments.open:
             # A browser in the terminal takes its time.
@@ -310,5 +379,10 @@ def _main() -> None:
         server.serve_forever()
 
 
+def command() -> None:
+    """Runs the program."""
+    _programs.run("page", _main)
+
+
 if __name__ == "__main__":
-    _programs.run("souper.page", _main)
+    command()

@@ -13,7 +13,7 @@ use souper_ir::parse::{
     parse_left_hand_sides_file, parse_replacements_file, parse_right_hand_sides_file, Result,
 };
 use std::fmt::{Display, Write as _};
-use std::io::Write as _;
+use std::io::{stdout, IsTerminal, Write as _};
 use std::path::Path;
 
 macro_rules! operands {
@@ -139,6 +139,22 @@ fn replacement(item: &Replacement) -> String {
     }
 }
 
+// The text; at a terminal what that may obey is another character.
+fn visible(text: String, is_terminal: bool) -> String {
+    let other = |c: char| match c {
+        '\n' => c,
+        '\0'..='\x1f' => char::from_u32(0x2400 + c as u32).unwrap_or('\u{fffd}'),
+        '\x7f' => '\u{2421}',
+        '\u{80}'..='\u{9f}' | '\u{202a}'..='\u{202e}' | '\u{2066}'..='\u{2069}' => '\u{fffd}',
+        _ => c,
+    };
+    if is_terminal {
+        text.chars().map(other).collect()
+    } else {
+        text
+    }
+}
+
 // The items of a file, or the error.
 fn show<T: Display>(items: Result<Vec<T>>, walk: impl Fn(&T) -> String) -> String {
     match items {
@@ -146,14 +162,14 @@ fn show<T: Display>(items: Result<Vec<T>>, walk: impl Fn(&T) -> String) -> Strin
             .iter()
             .map(|item| format!("{}\n=\n{item}\n==\n", walk(item)))
             .collect(),
-        Err(error) => format!("{error}\n"),
+        Err(error) => visible(format!("{error}\n"), stdout().is_terminal()),
     }
 }
 
 fn main() {
     let mut arguments = std::env::args().skip(1);
     let kind = arguments.next().expect("lhs, rhs or rep");
-    let mut out = std::io::stdout().lock();
+    let mut out = stdout().lock();
     for file in arguments {
         let path = Path::new(&file);
         let shown = match kind.as_str() {

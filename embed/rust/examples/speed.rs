@@ -10,7 +10,9 @@ use std::time::Instant;
 // Of one turn.
 fn seconds(text: &str) -> (f64, f64) {
     let begin = Instant::now();
-    let items = parse_left_hand_sides_str(text, None).expect("the file is valid");
+    let Ok(items) = parse_left_hand_sides_str(text, None) else {
+        panic!("the file is invalid")
+    };
     let read = begin.elapsed();
     let mut printed = String::new();
     for item in &items {

@@ -6,7 +6,7 @@
 //! in the order of the files; standard error has how many there were, and each that was refused.
 use souper_ir::canonical::{format, Error, Kind};
 use std::collections::HashSet;
-use std::io::Write;
+use std::io::{IsTerminal, Write};
 use std::process::ExitCode;
 use std::thread;
 
@@ -34,6 +34,22 @@ fn canonical<'a>(items: &[Item<'a>]) -> Vec<(Item<'a>, Result<String, Error>)> {
     })
 }
 
+// The text; at a terminal what that may obey is another character.
+fn visible(text: String, is_terminal: bool) -> String {
+    let other = |c: char| match c {
+        '\n' => c,
+        '\0'..='\x1f' => char::from_u32(0x2400 + c as u32).unwrap_or('\u{fffd}'),
+        '\x7f' => '\u{2421}',
+        '\u{80}'..='\u{9f}' | '\u{202a}'..='\u{202e}' | '\u{2066}'..='\u{2069}' => '\u{fffd}',
+        _ => c,
+    };
+    if is_terminal {
+        text.chars().map(other).collect()
+    } else {
+        text
+    }
+}
+
 fn main() -> Result<ExitCode, Box<dyn std::error::Error>> {
     let paths: Vec<String> = std::env::args().skip(1).collect();
     let texts = paths
@@ -57,7 +73,8 @@ fn main() -> Result<ExitCode, Box<dyn std::error::Error>> {
                 }
             }
             Err(error) => {
-                eprintln!("{path}: {error}\nof the item\n{item}");
+                let shown = format!("{path}: {error}\nof the item\n{item}");
+                eprintln!("{}", visible(shown, std::io::stderr().is_terminal()));
                 refused += 1;
             }
         }

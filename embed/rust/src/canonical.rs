@@ -56,6 +56,8 @@ pub struct Location {
 #[derive(Clone, Debug, PartialEq, Eq)]
 pub struct Refusal {
     shown: String,
+    // What the original crate shows: the line and the column of the byte before.
+    original: String,
     offset: usize,
     line: usize,
     column: usize,
@@ -65,9 +67,14 @@ pub struct Refusal {
 }
 
 impl Refusal {
-    /// Why and where, in four lines without a newline at the end. `Display` writes it as well.
+    /// Why and where, in four lines without a newline at the end: at [`Refusal::location`] or, without one, at [`Refusal::line`] and
+    /// [`Refusal::column`]. `Display` writes it as well.
     pub fn shown(&self) -> &str {
         &self.shown
+    }
+
+    pub(crate) fn original(&self) -> &str {
+        &self.original
     }
 
     /// The message alone: the first line of [`Refusal::shown`] without the place.
@@ -79,7 +86,7 @@ impl Refusal {
     /// assert_eq!(refusal.message(), "no value named '%y' in scope");
     /// ```
     pub fn message(&self) -> &str {
-        self.parts().map_or(&self.shown, |(message, _)| message)
+        parts(&self.shown).map_or(&self.shown, |(message, _)| message)
     }
 
     /// How many bytes were read.
@@ -121,41 +128,62 @@ impl Refusal {
         self.input
     }
 
-    // The message, and the line of the text, of the four lines.
-    fn parts(&self) -> Option<(&str, &str)> {
-        // From the end: the caret, the line, the bar, and the message, which begins with the place.
-        let mut lines = self.shown.rsplitn(4, '\n');
-        let (_, text) = lines.by_ref().nth(1)?.split_once(" | ")?;
-        let (_, message) = lines.nth(1)?.split_once(": ")?;
-        Some((message, text))
-    }
-
     // Gives the refusal of a segment its place and its location in the stream.
     pub(crate) fn place(&mut self, before: &Before) {
         let last_line = String::from_utf8_lossy(&before.last_line);
-        let Some((message, text)) = self.parts() else {
+        let (Some((message, text)), Some((_, mut text_before))) =
+            (parts(&self.shown), parts(&self.original))
+        else {
             unreachable!("a refusal has four lines")
         };
-        let (message, mut text) = (message.to_string(), text.to_string());
         if self.offset == 0 && before.bytes > 0 {
             // The byte before is the newline of the line before.
             (self.line, self.column) = (before.lines, before.last_line.len());
-            let whole = last_line.strip_suffix('\n').unwrap_or(&last_line);
-            text = whole.strip_suffix('\r').unwrap_or(whole).to_string();
+            text_before = line_at(&last_line, self.column - 1);
         } else {
             self.line += before.lines;
         }
-        let (number, column) = (self.line, self.column);
-        // A width of a format would panic past 65,535.
-        let spaces = " ".repeat(column - 1);
-        self.shown = format!(
-            "unknown:{number}:{column}: {message}\n     |\n{number:>4} | {text}\n     | {spaces}^"
-        );
+        let original = four_lines(message, self.line, self.column, text_before);
+        self.shown = match &mut self.location {
+            Some(at) => {
+                at.offset += before.bytes;
+                at.line += before.lines;
+                four_lines(message, at.line, at.column, text)
+            }
+            None => original.clone(),
+        };
+        self.original = original;
         self.offset += before.bytes;
-        if let Some(at) = &mut self.location {
-            at.offset += before.bytes;
-            at.line += before.lines;
+    }
+}
+
+// The message, and the line of the text, of the four lines that show a refusal.
+fn parts(shown: &str) -> Option<(&str, &str)> {
+    // From the end: the caret, the line, the bar, and the message, which begins with the place.
+    let mut lines = shown.rsplitn(4, '\n');
+    let (_, text) = lines.by_ref().nth(1)?.split_once(" | ")?;
+    let (_, message) = lines.nth(1)?.split_once(": ")?;
+    Some((message, text))
+}
+
+// The four lines that show a refusal.
+fn four_lines(message: &str, line: usize, column: usize, text: &str) -> String {
+    // A width of a format would panic past 65,535.
+    let spaces = " ".repeat(column - 1);
+    format!("unknown:{line}:{column}: {message}\n     |\n{line:>4} | {text}\n     | {spaces}^")
+}
+
+// The line of the byte at that offset, without its line end.
+fn line_at(text: &str, offset: usize) -> &str {
+    let (before, after) = (text.get(..offset), text.get(offset..));
+    let (before, after) = (before.unwrap_or(text), after.unwrap_or_default());
+    let start = before.rfind('\n').map_or(0, |newline| newline + 1);
+    match after.find('\n') {
+        Some(len) => {
+            let line = &text[start..before.len() + len];
+            line.strip_suffix('\r').unwrap_or(line)
         }
+        None => &text[start..],
     }
 }
 
@@ -364,15 +392,22 @@ fn string(bytes: Vec<u8>) -> String {
 }
 
 // The error of a text that was refused with that outcome.
-fn refused(kind: Kind, text: &str, outcome: &Outcome, shown: String) -> Error {
+fn refused(kind: Kind, text: &str, outcome: &Outcome, original: String) -> Error {
     let found = raw::locate(kind, text);
     let location = (found.status == raw::REFUSED).then_some(Location {
         offset: found.offset,
         line: found.line,
         column: found.column,
     });
+    let shown = match (location, parts(&original)) {
+        (Some(at), Some((message, _))) => {
+            four_lines(message, at.line, at.column, line_at(text, at.offset))
+        }
+        _ => original.clone(),
+    };
     Error::Refused(Refusal {
         shown,
+        original,
         offset: outcome.offset,
         line: outcome.line,
         column: outcome.column,

@@ -41,8 +41,9 @@ use std::{fmt, io};
 
 /// Why a text or a file gives no items.
 ///
-/// `Display` and `Debug` show a refused text in four lines without a newline at the end: the name of the file, or `unknown`, with
-/// the line, the column and the message, and then the line with a mark below its byte.
+/// `Display` and `Debug` show a refused text as the original crate does, in four lines without a newline at the end: the name of the
+/// file, or `unknown`, with the line, the column and the message, and then the line with a mark below its byte, the one before
+/// [`ParseError::location`].
 pub struct ParseError {
     reason: Box<Reason>,
 }
@@ -83,11 +84,11 @@ impl fmt::Display for ParseError {
     fn fmt(&self, f: &mut fmt::Formatter<'_>) -> fmt::Result {
         match &*self.reason {
             Reason::Refused(refusal, Some(file)) => {
-                let shown = refusal.shown();
+                let shown = refusal.original();
                 let place = shown.strip_prefix("unknown").unwrap_or(shown);
                 write!(f, "{}{place}", file.display())
             }
-            Reason::Refused(refusal, None) => f.write_str(refusal.shown()),
+            Reason::Refused(refusal, None) => f.write_str(refusal.original()),
             Reason::Io(error) => write!(f, "IO error: {error}"),
             Reason::Failed(error) => error.fmt(f),
             Reason::NoCode(error) => error.fmt(f),

@@ -2,7 +2,8 @@
 mod common;
 
 use common::{records, Record};
-use souper_ir::canonical::{check, format, same, Error, Kind};
+use souper_ir::canonical::{check, format, same, Error, Kind, Location};
+use souper_ir::parse::ParseError;
 
 // The line and the column of the byte after that many.
 fn place(text: &str, before: usize) -> (usize, usize) {
@@ -12,21 +13,36 @@ fn place(text: &str, before: usize) -> (usize, usize) {
     (lines.len(), lines[lines.len() - 1].len() + 1)
 }
 
+// What is shown of a text that is at fault there.
+fn located(text: &str, message: &str, at: Location) -> String {
+    let Location { line, column, .. } = at;
+    let mut lines = text.split('\n').skip(line - 1);
+    let source = lines.next().unwrap();
+    let source = match lines.next() {
+        Some(_) => source.strip_suffix('\r').unwrap_or(source),
+        None => source,
+    };
+    let caret = " ".repeat(column - 1) + "^";
+    format!("unknown:{line}:{column}: {message}\n     |\n{line:>4} | {source}\n     | {caret}")
+}
+
 fn refuses(error: Error, record: &Record, input: usize) {
     let Error::Refused(refusal) = &error else {
         panic!("{error}")
     };
-    assert_eq!(
-        (refusal.shown(), refusal.input()),
-        (record.answer.as_str(), input)
-    );
-    assert_eq!(error.to_string(), record.answer);
+    assert_eq!(refusal.input(), input);
+    assert_eq!(ParseError::from(refusal.clone()).to_string(), record.answer);
     // The byte before the offset, or the first.
     assert_eq!(
         (refusal.line(), refusal.column()),
         place(&record.text, refusal.offset().saturating_sub(1))
     );
     let location = refusal.location().expect("there is memory");
+    let shown = located(&record.text, refusal.message(), location);
+    assert_eq!(
+        (refusal.shown(), error.to_string()),
+        (shown.as_str(), shown.clone())
+    );
     let expected = if refusal.is_at_end() {
         record
             .text

@@ -111,7 +111,23 @@ fn a_text_that_ends_early_is_located_at_its_end_without_white_space() {
 }
 
 #[test]
-fn the_numbers_that_a_refusal_shows_are_of_the_byte_before() {
+fn a_parse_error_alone_shows_the_byte_before() {
+    let frame = "no value named '%q' in scope\n     |\n   2 | infer %q\n     |      ";
+    let text = "%x = var\r\ninfer %q\r\n";
+    let error = format(Kind::Lhs, text).unwrap_err();
+    assert_eq!(error.to_string(), format!("unknown:2:7: {frame} ^"));
+    let parse = parse_error(Kind::Lhs, text);
+    assert_eq!(parse.to_string(), format!("unknown:2:6: {frame}^"));
+    assert_eq!(ParseError::from(error).to_string(), parse.to_string());
+    let item = stream::items::<LeftHandSide, _>(text.as_bytes()).next();
+    let Some(Err(error)) = item else {
+        panic!("it is refused")
+    };
+    assert_eq!(error.to_string(), format!("unknown:2:7: {frame} ^"));
+}
+
+#[test]
+fn the_numbers_of_a_refusal_are_of_the_byte_before() {
     let error = parse_error(Kind::Lhs, "%x = var\n%x = var\ninfer %x");
     let refusal = error.refusal().unwrap();
     assert_eq!(
@@ -205,10 +221,7 @@ fn errors_become_each_other() {
     };
     assert_eq!(Error::from(refusal.clone()), refused());
     let parse = ParseError::from(refused());
-    assert_eq!(
-        (parse.refusal(), parse.to_string()),
-        (Some(&refusal), shown.clone())
-    );
+    assert_eq!(parse.refusal(), Some(&refusal));
     assert_eq!(ParseError::from(refusal.clone()).refusal(), Some(&refusal));
     assert_eq!(stream::Error::from(refused()).to_string(), shown);
     assert!(

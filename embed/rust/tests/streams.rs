@@ -5,6 +5,7 @@ use common::records;
 use souper_ir::ast::{LeftHandSide, Replacement, RightHandSide};
 use souper_ir::canonical::{Kind, Refusal};
 use souper_ir::code::{self, Item};
+use souper_ir::parse::ParseError;
 use souper_ir::stream::{items, Error, Reader};
 use std::io::{self, BufReader, Read};
 
@@ -12,17 +13,20 @@ use std::io::{self, BufReader, Read};
 #[derive(Debug, PartialEq)]
 enum Event {
     Item(String),
-    // The message, the place, the location, and whether it is at the end.
+    // What it shows, the place, the location, and whether it is at the end.
     Refused(String, [usize; 3], Option<[usize; 3]>, bool),
     NotUtf8(usize, usize),
 }
 
 fn refused(refusal: &Refusal) -> Event {
-    // If the token at fault begins the segment, the line before is shown.
-    let message = refusal.shown().lines().next().unwrap().to_string();
     let place = [refusal.offset(), refusal.line(), refusal.column()];
     let location = refusal.location().map(|at| [at.offset, at.line, at.column]);
-    Event::Refused(message, place, location, refusal.is_at_end())
+    Event::Refused(
+        refusal.shown().to_string(),
+        place,
+        location,
+        refusal.is_at_end(),
+    )
 }
 
 fn event<T: Item>(next: Result<T, Error>) -> Event {
@@ -195,7 +199,8 @@ fn refusals_are_those_of_the_whole_text() {
             panic!("{}", record.text)
         };
         if found.offset() == record.text.len() {
-            assert_eq!(message(found.shown()), message(&record.answer));
+            let shown = ParseError::from(found).to_string();
+            assert_eq!(message(&shown), message(&record.answer));
         }
     }
     let mut texts: Vec<String> = refused().map(|record| record.text).collect();
