@@ -564,8 +564,8 @@ class Drawings(unittest.TestCase):
     def test_names_are_found(self) -> None:
         opened.load("lhs", "%ab = var %abc = add %ab, 1 %b.x = add %abc, %ab pc %b.x 1 %B = add %b.x, 1 infer %B")
         for text, said, statement in (
-            ("ab", "1 of 2: Statement 1 uses nothing; used by 2, 3.", "1"), ("%abc", "Statement 2 uses 1; used by 3.", "2"),
-            ("b.x", "Statement 3 uses 2, 1; used by 4, 5.", "3"), (" %B ", "1 of 4: Statement 4 uses 3; used by infer.", "4"),
+            ("ab", "1 of 2 (Enter: next). Statement 1 uses nothing; used by 2, 3.", "1"), ("%abc", "Statement 2 uses 1; used by 3.", "2"),
+            ("b.x", "Statement 3 uses 2, 1; used by 4, 5.", "3"), (" %B ", "1 of 4 (Enter: next). Statement 4 uses 3; used by infer.", "4"),
             ("<i>", "No name has “<i>” in it.", ""), ("add", "No name has “add” in it.", ""), ("", None, ""), ("%", None, ""),
         ):
             opened.browser.run(f"{{ const one = document.getElementById('name'); one.value = {json.dumps(text)}; one.dispatchEvent(new Event('input')); }}")
