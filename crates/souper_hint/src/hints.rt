@@ -21,7 +21,10 @@ pub enum Hint<'a> {
     Either(&'static str, &'static str),
 
     /// The value of a number of another base.
-    Decimal { is_negative: bool, value: u64 },
+    Decimal {
+        is_negative: bool,
+        value: u64,
+    },
 
     /// A bit in place of `true` or `false`.
     Bit(bool),
@@ -30,16 +33,28 @@ pub enum Hint<'a> {
     NoComma(&'a str),
 
     /// A word, and how many operands it takes.
-    Operands { word: &'a str, count: usize },
+    Operands {
+        word: &'a str,
+        count: usize,
+    },
 
     /// A block, and how many predecessors it has.
-    Values { block: &'a str, count: usize },
+    Values {
+        block: &'a str,
+        count: usize,
+    },
 
     /// A name that is no block, and the line of its definition.
-    NoBlock { name: &'a str, line: usize },
+    NoBlock {
+        name: &'a str,
+        line: usize,
+    },
 
     /// A name, and the line of its first definition.
-    Defined { name: &'a str, line: usize },
+    Defined {
+        name: &'a str,
+        line: usize,
+    },
 
     /// The same, and the last line that is missing if the line `next` begins another item.
     DefinedBefore {
@@ -50,7 +65,10 @@ pub enum Hint<'a> {
     },
 
     /// The last line that is missing, and the line before which it is: the first one of another item, or a result line.
-    Missing { last_line: LastLine, next: usize },
+    Missing {
+        last_line: LastLine,
+        next: usize,
+    },
 
     /// The last line that is missing at the end of the text.
     MissingAtEnd(LastLine),
@@ -112,7 +130,8 @@ impl LastLine {
 impl Rule {
     fn text(self) -> &'static str {
         match self {
-            Rule::Comparison => "write the comparison alone: 'eq', 'ne', 'ult', 'slt', 'ule' or 'sle'",
+            Rule::Comparison =>
+                "write the comparison alone: 'eq', 'ne', 'ult', 'slt', 'ule' or 'sle'",
             Rule::Not => "there is no 'not'; write 'xor' with -1",
             Rule::Negation => "there is no 'neg'; write 'sub' from 0",
             Rule::Type => {
@@ -126,7 +145,8 @@ impl Rule {
             Rule::Decimal => "numbers are decimal",
             Rule::Attribute => "this attribute comes after a definition",
             Rule::RootAttribute => "this attribute comes after 'infer' or 'cand' with its operands",
-            Rule::ByteOrderMark => "the text begins with a byte order mark (U+FEFF); save it without",
+            Rule::ByteOrderMark =>
+                "the text begins with a byte order mark (U+FEFF); save it without",
         }
     }
 }
@@ -145,8 +165,14 @@ fn show_operands<W: fmt::Write>(
 
 fn show_values<W: fmt::Write>(f: &mut fmt::Formatter<W>, block: &str, count: usize) -> fmt::Result {
     match count {
-        1 => write!(f, "'{block}' has 1 predecessor, and a phi has a value for each"),
-        _ => write!(f, "'{block}' has {count} predecessors, and a phi has a value for each"),
+        1 => write!(
+            f,
+            "'{block}' has 1 predecessor, and a phi has a value for each"
+        ),
+        _ => write!(
+            f,
+            "'{block}' has {count} predecessors, and a phi has a value for each"
+        ),
     }
 }
 

@@ -36,10 +36,7 @@ pub(crate) struct Marks {
 /// Whether an empty line is in a gap between tokens.
 pub(crate) fn has_empty_line(gap: &str) -> bool {
     match gap.rsplit_once('\n') {
-        Some((lines, _)) => lines
-            .split('\n')
-            .skip(1)
-            .any(|line| line.trim().is_empty()),
+        Some((lines, _)) => lines.split('\n').skip(1).any(|line| line.trim().is_empty()),
         None => false,
     }
 }

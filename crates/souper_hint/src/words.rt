@@ -5,7 +5,8 @@ const NO_OPERAND: &str = "hole var reservedinst reservedconst";
 
 const ONE_OPERAND: &str = "zext sext trunc ctpop bswap bitreverse cttz ctlz freeze";
 
-const TWO_OPERANDS: &str = "add addnsw addnuw addnw sub subnsw subnuw subnw mul mulnsw mulnuw mulnw \
+const TWO_OPERANDS: &str =
+    "add addnsw addnuw addnw sub subnsw subnuw subnw mul mulnsw mulnuw mulnw \
     udiv sdiv udivexact sdivexact urem srem and or xor shl shlnsw shlnuw shlnw lshr lshrexact ashr ashrexact \
     eq ne ult slt ule sle sadd.with.overflow uadd.with.overflow ssub.with.overflow usub.with.overflow \
     smul.with.overflow umul.with.overflow sadd.sat uadd.sat ssub.sat usub.sat extractvalue";
