@@ -1,5 +1,5 @@
 //! Hints about operands: how they are written, and how many there are.
-ghost use Rattle.std.specs.Prelude.{ℕ, List, IfSome};
+ghost use Rattle.std.specs.Prelude.{IfSome};
 ghost use Rattle.souper_hint.specs.Hints.{SuggestsFrom};
 
 use crate::hints::{Hint, Rule};
@@ -60,13 +60,11 @@ pub(crate) fn at_comma<'a>(scene: &Scene<'a>) -> Option<Hint<'a>>
 }
 
 // The word of an instruction that these two words make together, as LLVM writes it.
-fn joined<'a>(front: &str, back: &str) -> Option<Hint<'a>>
-    ensures { (text : List ℕ) → IfSome result (SuggestsFrom text) }
-{
+fn joined(front: &str, back: &str) -> Option<&'static str> {
     for words in RIGHT_SIDES {
         for word in words.split(' ') {
             if word.strip_prefix(front).unwrap_or("") == back {
-                return Some(Hint::Word(word));
+                return Some(word);
             }
         }
     }
@@ -86,6 +84,16 @@ fn named<'a>(scene: &Scene<'a>, word: &'a str) -> Option<Hint<'a>>
     }
 }
 
+// A hint at a word in place of an operand, after the word of its statement.
+fn at_word<'a>(scene: &Scene<'a>, front: &str, word: &'a str) -> Option<Hint<'a>>
+    ensures { IfSome result (SuggestsFrom scene.now.front.now) }
+{
+    if let Some(word) = joined(front, word) {
+        return Some(Hint::Word(word));
+    }
+    named(scene, word)
+}
+
 /// A hint where an operand should come.
 pub(crate) fn at_operand<'a>(scene: &Scene<'a>) -> Option<Hint<'a>>
     ensures { IfSome result (SuggestsFrom scene.now.front.now) }
@@ -102,7 +110,7 @@ pub(crate) fn at_operand<'a>(scene: &Scene<'a>) -> Option<Hint<'a>>
         "false" => Some(Hint::Bit(false)),
         _ if !is_word(token) => None,
         _ if is_type(token) => Some(Hint::Rule(Rule::Type)),
-        _ => joined(word, token).or(named(scene, token)),
+        _ => at_word(scene, word, token),
     }
 }
 
