@@ -244,6 +244,12 @@ write 'sle' with the operands swapped
 infer %y
 ---
 write the comparison alone: 'eq', 'ne', 'ult', 'slt', 'ule' or 'sle'
+=== lhs comparison without its kind
+%x = var
+%y = cmp ult %x, 1
+infer %y
+---
+write the comparison alone: 'eq', 'ne', 'ult', 'slt', 'ule' or 'sle'
 === lhs not
 %x = var
 %y = not %x
@@ -341,6 +347,11 @@ numbers are decimal: -8
 infer %x
 ---
 numbers are decimal: 2
+=== lhs hex number in place of bits
+%x = var
+infer %x (demandedBits=0x1)
+---
+
 === lhs hex number of 72 bits
 %x = var
 %y = and %x, 0xffffffffffffffffff
@@ -464,14 +475,29 @@ infer %y
 pc %x, 1
 infer %x
 ---
-'pc' has no comma between its operands
+'pc' has no ',' between its operands
 === lhs comma in a path condition on a predecessor
 %b = block 2
 %x = var
 blockpc %b 0 %x, 1
 infer %x
 ---
-'blockpc' has no comma between its operands
+'blockpc' has no ',' between its operands
+=== lhs equals sign in a path condition
+%x = var
+pc %x = 1
+infer %x
+---
+'pc' has no '=' between its operands
+=== rep equals sign of a cand
+%x = var
+cand %x = 1
+---
+'cand' has no '=' between its operands
+=== rep second comma of a cand
+cand 1,,2
+---
+
 === rhs comma in place of an operand
 result ,
 ---
@@ -589,6 +615,16 @@ infer %x
 did you mean 'i8'?
 === lhs number beyond the widths in place of a type
 %x:65536 = var
+infer %x
+---
+the width of a type is 1 to 65535
+=== lhs unsigned type
+%x:u8 = var
+infer %x
+---
+did you mean 'i8'?
+=== lhs type in capitals
+%x:I65536 = var
 infer %x
 ---
 the width of a type is 1 to 65535

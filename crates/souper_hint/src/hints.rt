@@ -29,8 +29,11 @@ pub enum Hint<'a> {
     /// A bit in place of `true` or `false`.
     Bit(bool),
 
-    /// The word of a line in which no comma comes between the operands.
-    NoComma(&'a str),
+    /// The word of a line in which this mark does not come between the operands.
+    NoMark {
+        word: &'a str,
+        mark: &'a str,
+    },
 
     /// A word, and how many operands it takes.
     Operands {
@@ -229,7 +232,9 @@ impl fmt::Display for Hint<'_> {
             Hint::Decimal { is_negative, value } => show_decimal(f, is_negative, value),
             Hint::Bit(true) => write!(f, "write '1:i1' for 'true'"),
             Hint::Bit(false) => write!(f, "write '0:i1' for 'false'"),
-            Hint::NoComma(word) => write!(f, "'{word}' has no comma between its operands"),
+            Hint::NoMark { word, mark } => {
+                write!(f, "'{word}' has no '{mark}' between its operands")
+            }
             Hint::Operands { word, count } => show_operands(f, word, count),
             Hint::Values { block, count } => show_values(f, block, count),
             Hint::Rule(rule) => f.write_str(rule.text()),

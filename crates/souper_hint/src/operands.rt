@@ -104,7 +104,8 @@ pub(crate) fn at_operand<'a>(scene: &Scene<'a>) -> Option<Hint<'a>>
     };
     let word = scene.statement().word;
     match token {
-        "," if word == "pc" || word == "blockpc" => Some(Hint::NoComma(word)),
+        "," | "=" if word == "pc" || word == "blockpc" => Some(Hint::NoMark { word, mark: token }),
+        "=" if word == "cand" => Some(Hint::NoMark { word, mark: token }),
         ":" => Some(Hint::Rule(Rule::Type)),
         "true" => Some(Hint::Bit(true)),
         "false" => Some(Hint::Bit(false)),

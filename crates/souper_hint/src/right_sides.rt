@@ -18,7 +18,7 @@ fn in_place_of<'a>(word: &str) -> Option<Hint<'a>>
         "uge" => Some(Hint::Swapped("ule")),
         "sgt" => Some(Hint::Swapped("slt")),
         "sge" => Some(Hint::Swapped("sle")),
-        "icmp" => Some(Hint::Rule(Rule::Comparison)),
+        "icmp" | "cmp" => Some(Hint::Rule(Rule::Comparison)),
         "not" => Some(Hint::Rule(Rule::Not)),
         "neg" => Some(Hint::Rule(Rule::Negation)),
         "true" => Some(Hint::Bit(true)),

@@ -5,7 +5,7 @@ ghost use Rattle.souper_hint.specs.Hints.{SuggestsFrom};
 use crate::hints::{Hint, Rule};
 use crate::nearest::nearest_word;
 use crate::scene::Scene;
-use crate::tokens::{is_name_byte, is_number, is_type};
+use crate::tokens::{is_name_byte, is_number, is_type, is_word};
 use crate::words::{ATTRIBUTES, ROOT_ATTRIBUTES, has_word};
 use std::alloc::{AllocError, Global};
 
@@ -58,7 +58,8 @@ pub(crate) fn number_of_base<'a>(scene: &Scene<'a>) -> Option<Hint<'a>>
     ensures { IfSome result (SuggestsFrom scene.now.front.now) }
 {
     let before = scene.front.strip_suffix('0')?;
-    if before.as_bytes().last().is_some_and(is_name_byte) {
+    let is_bits = before.ends_with("demandedBits=");
+    if is_bits || before.as_bytes().last().is_some_and(is_name_byte) {
         return None;
     }
     let token = scene.token()?;
@@ -85,11 +86,15 @@ pub(crate) fn at_type<'a>(scene: &Scene<'a>) -> Option<Hint<'a>>
     if is_type(token) {
         return Some(Hint::Rule(Rule::Width));
     }
-    if !is_number(token) {
+    let digits = match token.get(1..) {
+        Some(rest) if is_word(token) => rest,
+        _ => token,
+    };
+    if !is_number(digits) {
         return None;
     }
-    match token.parse::<u16>() {
-        Ok(width) if width > 0 => Some(Hint::Lacks('i', token)),
+    match digits.parse::<u16>() {
+        Ok(width) if width > 0 => Some(Hint::Lacks('i', digits)),
         _ => Some(Hint::Rule(Rule::Width)),
     }
 }
