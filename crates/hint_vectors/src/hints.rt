@@ -50,7 +50,10 @@ fn each_text_has_its_hint(rt: HostRuntime) {
         .expect(&rt, "no newline at the end");
     for lines in cases.split("\n=== ") {
         let Case {
-            kind, text, want, ..
+            kind,
+            text,
+            want,
+            ..
         } = read_case(&rt, lines);
         is_hinted(&rt, rt.alloc(), kind, text, want);
     }

@@ -96,7 +96,10 @@ fn word_takes(rt: &impl Abort, alloc: Global, row: &str) {
     let count = digits.parse::<usize>().ok().expect(rt, row);
     let want = takes(rt, alloc, word, count);
     let text = applied(rt, alloc, word, count);
-    assert!(rt; parse_error(alloc, Kind::Lhs, text.as_str()).is_none(), "{row}");
+    assert!(rt;
+        parse_error(alloc, Kind::Lhs, text.as_str()).is_none(),
+        "{row}"
+    );
     let text = applied(rt, alloc, word, count.saturating_add(1));
     is_hinted(rt, alloc, Kind::Lhs, text.as_str(), want.as_str());
     if count > 0 {
