@@ -1,0 +1,776 @@
+//! Rejected texts, each with its hint.
+
+/// The cases.
+pub const REJECTED: &str = "
+=== lhs misspelt instruction
+%x = var
+%y = ad %x, 1
+infer %y
+---
+did you mean 'add'?
+=== lhs letters of an instruction swapped
+%x = var
+%y = mlu %x, 2
+infer %y
+---
+did you mean 'mul'?
+=== lhs misspelt instruction of many letters
+%x = var
+%y = uadd.with.overflw %x, 1
+infer %y
+---
+did you mean 'uadd.with.overflow'?
+=== lhs instruction in capitals
+%x = var
+%y = ADD %x, 1
+infer %y
+---
+did you mean 'add'?
+=== lhs word like no instruction
+%x = var
+%y = load %x
+infer %y
+---
+
+=== lhs short word like no instruction
+%x = var
+%y = foo %x
+infer %y
+---
+
+=== lhs misspelt var
+%x = vra
+infer %x
+---
+did you mean 'var'?
+=== lhs misspelt block
+%b = blck 2
+infer %b
+---
+did you mean 'block'?
+=== lhs misspelt infer
+%x = var
+infr %x
+---
+did you mean 'infer'?
+=== lhs infer with a capital letter
+%x = var
+Infer %x
+---
+did you mean 'infer'?
+=== rhs misspelt result
+%x = var
+reslt %x
+---
+did you mean 'result'?
+=== rep misspelt cand
+cnd 1 2
+---
+did you mean 'cand'?
+=== rep misspelt result
+%x = var
+infer %x
+resutl 1
+---
+did you mean 'result'?
+=== rep word like no last line
+%x = var
+infer %x
+return 1
+---
+
+=== lhs misspelt pc
+%x = var
+pcc %x 1
+infer %x
+---
+did you mean 'pc'?
+=== lhs misspelt blockpc
+%b = block 1
+bockpc %b 0 1 1
+infer %b
+---
+did you mean 'blockpc'?
+=== lhs last line of another kind
+%x = var
+result %x
+---
+
+=== rhs infer line of a right-hand side
+%x = var
+infer %x
+---
+
+=== lhs misspelt attribute
+%x = var (powerOfTow)
+infer %x
+---
+did you mean 'powerOfTwo'?
+=== lhs attribute in small letters
+%x = var (knownbits=01)
+infer %x
+---
+did you mean 'knownBits'?
+=== lhs attribute in other letters
+%x = var (NonZero)
+infer %x
+---
+did you mean 'nonZero'?
+=== lhs word like no attribute
+%x = var (foo)
+infer %x
+---
+
+=== lhs misspelt attribute of a root
+%x = var
+infer %x (demandedbit=01)
+---
+did you mean 'demandedBits'?
+=== rep misspelt attribute of a cand
+%x = var
+cand %x 1 (harvestedfromUse)
+---
+did you mean 'harvestedFromUse'?
+=== lhs attribute of a definition after infer
+%x = var
+infer %x (nonZero)
+---
+this attribute comes after a definition
+=== lhs known bits after infer
+%x = var
+infer %x (knownBits=01)
+---
+this attribute comes after a definition
+=== lhs attribute of a root after a definition
+%x = var (demandedBits=01)
+infer %x
+---
+this attribute comes after 'infer' or 'cand' with its operands
+=== lhs misspelt name after infer
+%count = var
+infer %cuont
+---
+did you mean '%count'?
+=== lhs misspelt name of an operand
+%right = var
+%left = var
+%sum = add %lft, 1
+infer %sum
+---
+did you mean '%left'?
+=== lhs name with a capital letter
+%x = var
+infer %X
+---
+did you mean '%x'?
+=== lhs misspelt name of a block
+%block1 = block 2
+%p = phi %blok1, 1, 2
+infer %p
+---
+did you mean '%block1'?
+=== lhs name of one letter
+%x = var
+infer %y
+---
+
+=== lhs name that is a number
+%10 = var
+infer %11
+---
+
+=== lhs number where names are
+%x10 = var
+infer %10
+---
+
+=== lhs name of its own definition
+%total = add %total, 1
+infer %total
+---
+
+=== lhs misspelt name of its own definition
+%total = add %totl, 1
+infer %total
+---
+
+=== lhs name of the item before
+%left = var
+infer %left
+
+%right = var
+infer %lft
+---
+
+=== lhs name that a comment has
+%x = var ; %left = var
+infer %lft
+---
+
+=== lhs value in place of a block
+; one
+%x:i8 = var
+%p = phi %x, 1
+infer %p
+---
+'%x' is no block; its definition is on line 2
+=== lhs unsigned greater
+%x = var
+%y = ugt %x, 1
+infer %y
+---
+write 'ult' with the operands swapped
+=== lhs unsigned greater or equal
+%x = var
+%y = uge %x, 1
+infer %y
+---
+write 'ule' with the operands swapped
+=== lhs signed greater
+%x = var
+%y = sgt %x, 1
+infer %y
+---
+write 'slt' with the operands swapped
+=== lhs signed greater or equal
+%x = var
+%y = sge %x, 1
+infer %y
+---
+write 'sle' with the operands swapped
+=== lhs comparison as in LLVM
+%x = var
+%y = icmp ult i32 %x, 1
+infer %y
+---
+write the comparison alone: 'eq', 'ne', 'ult', 'slt', 'ule' or 'sle'
+=== lhs comparison without its kind
+%x = var
+%y = cmp ult %x, 1
+infer %y
+---
+write the comparison alone: 'eq', 'ne', 'ult', 'slt', 'ule' or 'sle'
+=== lhs not
+%x = var
+%y = not %x
+infer %y
+---
+there is no 'not'; write 'xor' with -1
+=== lhs neg
+%x = var
+%y = neg %x
+infer %y
+---
+there is no 'neg'; write 'sub' from 0
+=== lhs division without a sign
+%x = var
+%y = div %x, 2
+infer %y
+---
+write 'udiv' (unsigned) or 'sdiv' (signed)
+=== lhs shift without a sign
+%x = var
+%y = shr %x, 2
+infer %y
+---
+write 'lshr' (unsigned) or 'ashr' (signed)
+=== lhs type before the operands
+%x = var
+%y = add i32 %x, 1
+infer %y
+---
+a type comes after the name that is defined or a constant: '%y:i32 = add %x, 1:i32'
+=== lhs type of a conversion
+%x = var
+%y = zext i8 %x to i32
+infer %y
+---
+a type comes after the name that is defined or a constant: '%y:i32 = add %x, 1:i32'
+=== lhs type after var
+%x = var i8
+infer %x
+---
+a type comes after the name that is defined or a constant: '%y:i32 = add %x, 1:i32'
+=== lhs type after var and a colon
+%x = var:i8
+infer %x
+---
+a type comes after the name that is defined or a constant: '%y:i32 = add %x, 1:i32'
+=== lhs type before the right side
+%x = i8 var
+infer %x
+---
+a type comes after the name that is defined or a constant: '%y:i32 = add %x, 1:i32'
+=== lhs type of an operand
+%x = var
+%y = add %x:i8, 1
+infer %y
+---
+a type comes after the name that is defined or a constant: '%y:i32 = add %x, 1:i32'
+=== lhs type of an operand of a path condition
+%x = var
+pc %x:i1 1
+infer %x
+---
+a type comes after the name that is defined or a constant: '%y:i32 = add %x, 1:i32'
+=== lhs flag after a space
+%x = var
+%y = add nsw %x, 1
+infer %y
+---
+did you mean 'addnsw'?
+=== lhs exact division
+%x = var
+%y = udiv exact i32 %x, 2
+infer %y
+---
+did you mean 'udivexact'?
+=== lhs hex number as the last operand
+%x = var
+%y = add %x, 0x1F
+infer %y
+---
+numbers are decimal: 31
+=== lhs hex number as the first operand
+%y = sub 0x10, 1
+infer %y
+---
+numbers are decimal: 16
+=== lhs negative hex number
+%x = var
+pc -0x8 %x
+infer %x
+---
+numbers are decimal: -8
+=== lhs hex number of an attribute
+%x = var (signBits=0x2)
+infer %x
+---
+numbers are decimal: 2
+=== lhs hex number in place of bits
+%x = var
+infer %x (demandedBits=0x1)
+---
+
+=== lhs hex number of 72 bits
+%x = var
+%y = and %x, 0xffffffffffffffffff
+infer %y
+---
+numbers are decimal
+=== lhs hex number with capital letters
+%x = var
+%y = add %x, 0XFF
+infer %y
+---
+numbers are decimal: 255
+=== lhs hex number of a range
+%x = var (range=[0x8,16))
+infer %x
+---
+numbers are decimal: 8
+=== lhs binary number
+%x = var
+%y = add %x, 0b101
+infer %y
+---
+numbers are decimal: 5
+=== lhs zero and a word
+%x = var
+%y = add %x, 0x
+infer %y
+---
+
+=== lhs zero and a word of two letters
+%x = var
+%y = add %x, 0bd
+infer %y
+---
+
+=== lhs word after a number
+%x = var
+%y = add %x, 10 x1
+infer %y
+---
+
+=== lhs true
+%x = var
+pc %x true
+infer %x
+---
+write '1:i1' for 'true'
+=== lhs false
+%x = var
+%y = eq %x, false
+infer %y
+---
+write '0:i1' for 'false'
+=== lhs true as a right side
+%x = true
+infer %x
+---
+write '1:i1' for 'true'
+=== lhs comment after a number sign
+# one
+%x = var
+infer %x
+---
+a comment begins with ';'
+=== lhs comment after two slashes
+%x = var // one
+infer %x
+---
+a comment begins with ';'
+=== lhs comment as in C
+%x = var /* one */
+infer %x
+---
+a comment begins with ';'
+=== lhs one slash
+%x = var / 2
+infer %x
+---
+
+=== lhs definition without its percent sign
+x = var
+infer %x
+---
+did you mean '%x'?
+=== lhs typed definition without its percent sign
+%y = var
+x:i8 = var
+infer %y
+---
+did you mean '%x'?
+=== lhs operand without its percent sign
+%x = var
+%y = add x, 1
+infer %y
+---
+did you mean '%x'?
+=== lhs root without its percent sign
+%x = var
+infer x
+---
+did you mean '%x'?
+=== lhs block without its percent sign
+%b = block 1
+%p = phi b, 1
+infer %p
+---
+did you mean '%b'?
+=== lhs word in place of an operand
+%y = add z, 1
+infer %y
+---
+a name begins with '%'
+=== lhs instruction in place of an operand
+%x = var
+%y = add mul %x, 2
+infer %y
+---
+
+=== lhs comma in a path condition
+%x = var
+pc %x, 1
+infer %x
+---
+'pc' has no ',' between its operands
+=== lhs comma in a path condition on a predecessor
+%b = block 2
+%x = var
+blockpc %b 0 %x, 1
+infer %x
+---
+'blockpc' has no ',' between its operands
+=== lhs equals sign in a path condition
+%x = var
+pc %x = 1
+infer %x
+---
+'pc' has no '=' between its operands
+=== rep equals sign of a cand
+%x = var
+cand %x = 1
+---
+'cand' has no '=' between its operands
+=== rep second comma of a cand
+cand 1,,2
+---
+
+=== rhs comma in place of an operand
+result ,
+---
+
+=== lhs an operand too few
+%x = var
+%y = add %x
+infer %y
+---
+'add' takes 2 operands
+=== lhs two operands too few
+%y = select 1
+infer %y
+---
+'select' takes 3 operands
+=== lhs no operand
+%y = add
+infer %y
+---
+'add' takes 2 operands
+=== lhs an operand too few at the end
+%x = var
+%y = add %x,
+---
+'add' takes 2 operands
+=== lhs an operand too many
+%x = var
+%y = add %x, 1, 2
+infer %y
+---
+'add' takes 2 operands
+=== lhs an operand too many without a comma
+%x = var
+%y = zext %x %x
+infer %y
+---
+'zext' takes 1 operand
+=== lhs number too many after a type
+%y:i8 = add 1:i8, 2:i8, 3:i8
+infer %y
+---
+'add' takes 2 operands
+=== lhs operand of hole
+%y = hole 1
+infer %y
+---
+'hole' takes no operands
+=== lhs operand of var
+%y = var 1
+infer %y
+---
+'var' takes no operands
+=== lhs path condition with one operand
+%x = var
+pc %x
+infer %x
+---
+'pc' takes 2 operands
+=== lhs path condition with three operands
+%x = var
+pc %x 1 1
+infer %x
+---
+'pc' takes 2 operands
+=== lhs infer line of two names
+%x = var
+infer %x, %x
+---
+'infer' takes 1 operand
+=== lhs infer line of no name
+%x = var
+infer
+---
+'infer' takes 1 operand
+=== lhs operands without a comma
+%x = var
+%y = add %x 1
+infer %y
+---
+
+=== lhs a value of a phi too few
+%b = block 2
+%p = phi %b, 1
+infer %p
+---
+'%b' has 2 predecessors, and a phi has a value for each
+=== lhs a value of a phi too many
+%x = var
+%b = block 2
+%p = phi %b, 1, %x, 3
+infer %p
+---
+'%b' has 2 predecessors, and a phi has a value for each
+=== lhs two values of a phi of one predecessor
+%b = block 1
+%p = phi %b, 1, 2
+infer %p
+---
+'%b' has 1 predecessor, and a phi has a value for each
+=== lhs width 0
+%x:i0 = var
+infer %x
+---
+the width of a type is 1 to 65535
+=== lhs width 65536
+%x = var
+%y = add %x, 1:i65536
+infer %y
+---
+the width of a type is 1 to 65535
+=== lhs number in place of a type
+%x:8 = var
+infer %x
+---
+did you mean 'i8'?
+=== lhs number beyond the widths in place of a type
+%x:65536 = var
+infer %x
+---
+the width of a type is 1 to 65535
+=== lhs unsigned type
+%x:u8 = var
+infer %x
+---
+did you mean 'i8'?
+=== lhs type in capitals
+%x:I65536 = var
+infer %x
+---
+the width of a type is 1 to 65535
+=== lhs word in place of a type
+%x:int = var
+infer %x
+---
+
+=== lhs second definition
+; one
+%x = var
+%y = var
+%x = add %y, 1
+infer %x
+---
+'%x' is defined on line 2
+=== lhs second definition on the same line
+%x = var %x = var
+infer %x
+---
+'%x' is defined on line 1
+=== lhs infer line is missing between two items
+%x = var
+%y = add %x, 1
+
+; two
+%x = var
+infer %x
+---
+'%x' is defined on line 1; if line 5 begins another item, the 'infer' line is missing before it
+=== lhs infer line is missing, and the next item begins with another name
+%x = var
+%y = add %x, 1
+
+%z = var
+%y = add %z, 1
+infer %y
+---
+'%y' is defined on line 2; if line 4 begins another item, the 'infer' line is missing before it
+=== rhs result line is missing between two items
+%x = var
+
+%x = var
+result %x
+---
+'%x' is defined on line 1; if line 3 begins another item, the 'result' line is missing before it
+=== rep result line is missing between two items
+%x = var
+
+infer %x
+%z = add %x, 0
+
+%y = var
+infer %y
+result %y
+---
+the 'result' line is missing before line 6
+=== rep result line is missing, without an empty line
+%x = var
+infer %x
+%y = var
+cand %y 1
+---
+the 'result' line is missing before line 3
+=== rep second infer line
+%x = var
+infer %x
+infer %x
+---
+the 'result' line is missing before line 3
+=== rep infer line is missing
+%x = var
+result %x
+---
+the 'infer' line is missing before line 2
+=== lhs infer line is missing at the end
+%x = var (nonZero)
+---
+the 'infer' line is missing at the end
+=== lhs infer line is missing after a phi
+%b = block 2
+%p = phi %b, 1, 2
+---
+the 'infer' line is missing at the end
+=== lhs infer line is missing after a path condition
+%b = block 2
+blockpc %b 0 1 1
+; one
+---
+the 'infer' line is missing at the end
+=== rhs result line is missing at the end
+%x = var
+---
+the 'result' line is missing at the end
+=== rep last lines are missing at the end
+%x = var
+---
+the 'infer' or 'cand' line is missing at the end
+=== rep result line is missing at the end
+%x = var
+infer %x
+---
+the 'result' line is missing at the end
+=== lhs end in an attribute
+%x = var (nonZero
+---
+
+=== lhs end after a name
+%x = var
+%y
+---
+
+=== lhs byte order mark
+\u{feff}%x = var
+infer %x
+---
+the text begins with a byte order mark (U+FEFF); save it without
+=== lhs byte order mark after the beginning
+%x = var\u{feff}
+infer %x
+---
+
+=== lhs bracket at the end of a range
+%x = var (range=[0,8])
+infer %x
+---
+a range ends with ')', as in '(range=[0,8))'
+=== lhs constant as a right side
+%x = 5
+infer %x
+---
+a constant or a name is no right side; write it where it is used
+=== lhs name as a right side
+%x = var
+%y = %x
+infer %y
+---
+a constant or a name is no right side; write it where it is used
+=== lhs definition without its sign
+%x var
+infer %x
+---
+
+=== lhs character of two bytes
+%x = var \u{e9}
+infer %x
+---
+
+";

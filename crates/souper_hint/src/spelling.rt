@@ -1,0 +1,100 @@
+//! Hints about attributes, types and numbers.
+ghost use Rattle.std.specs.Prelude.{◌≤◌, IfOk, IfSome};
+ghost use Rattle.souper_hint.specs.Hints.{SuggestsFrom};
+
+use crate::hints::{Hint, Rule};
+use crate::nearest::nearest_word;
+use crate::scene::Scene;
+use crate::tokens::{is_name_byte, is_number, is_type, is_word};
+use crate::words::{ATTRIBUTES, ROOT_ATTRIBUTES, has_word};
+use std::alloc::{AllocError, Global};
+
+/// A hint at the word of an attribute of a definition.
+pub(crate) fn at_attribute<'a>(
+    alloc: Global,
+    scene: &Scene<'a>,
+) -> Result<Option<Hint<'a>>, AllocError>
+    ensures { IfOk result (λ hint. IfSome hint (SuggestsFrom scene.now.front.now)) }
+{
+    let Some(word) = scene.token() else {
+        return Ok(None);
+    };
+    if has_word(ROOT_ATTRIBUTES, word) {
+        return Ok(Some(Hint::Rule(Rule::RootAttribute)));
+    }
+    nearest_word(alloc, word, &[ATTRIBUTES])
+}
+
+/// A hint at the word of an attribute of a root.
+pub(crate) fn at_root_attribute<'a>(
+    alloc: Global,
+    scene: &Scene<'a>,
+) -> Result<Option<Hint<'a>>, AllocError>
+    ensures { IfOk result (λ hint. IfSome hint (SuggestsFrom scene.now.front.now)) }
+{
+    let Some(word) = scene.token() else {
+        return Ok(None);
+    };
+    if has_word(ATTRIBUTES, word) {
+        return Ok(Some(Hint::Rule(Rule::Attribute)));
+    }
+    nearest_word(alloc, word, &[ROOT_ATTRIBUTES])
+}
+
+// The base of a number that begins with 0 and this letter.
+fn base_of(letter: char) -> Option<u32>
+    ensures { IfSome result (λ base. 2 ≤ base × (base ≤ 16)) }
+{
+    match letter {
+        'x' | 'X' => Some(16),
+        'o' => Some(8),
+        'b' => Some(2),
+        _ => None,
+    }
+}
+
+/// A hint at the rest of a number of another base, which the parser reads as 0 and a word.
+pub(crate) fn number_of_base<'a>(scene: &Scene<'a>) -> Option<Hint<'a>>
+    ensures { IfSome result (SuggestsFrom scene.now.front.now) }
+{
+    let before = scene.front.strip_suffix('0')?;
+    let is_bits = before.ends_with("demandedBits=");
+    if is_bits || before.as_bytes().last().is_some_and(is_name_byte) {
+        return None;
+    }
+    let token = scene.token()?;
+    let base = base_of(token.chars().next()?)?;
+    let digits = token.get(1..)?;
+    if !digits.bytes().all(|byte| byte.is_ascii_hexdigit()) {
+        return None;
+    }
+    match u64::from_str_radix(digits, base) {
+        Ok(value) => Some(Hint::Decimal {
+            is_negative: before.ends_with('-'),
+            value,
+        }),
+        Err(_) if digits.len() > 16 => Some(Hint::Rule(Rule::Decimal)),
+        Err(_) => None,
+    }
+}
+
+/// A hint where a type should come.
+pub(crate) fn at_type<'a>(scene: &Scene<'a>) -> Option<Hint<'a>>
+    ensures { IfSome result (SuggestsFrom scene.now.front.now) }
+{
+    let token = scene.token()?;
+    if is_type(token) {
+        return Some(Hint::Rule(Rule::Width));
+    }
+    let digits = match token.get(1..) {
+        Some(rest) if is_word(token) => rest,
+        _ => token,
+    };
+    if !is_number(digits) {
+        return None;
+    }
+    match digits.parse::<u16>() {
+        Ok(width) if width > 0 => Some(Hint::Lacks('i', digits)),
+        _ => Some(Hint::Rule(Rule::Width)),
+    }
+}

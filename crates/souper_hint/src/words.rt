@@ -1,0 +1,56 @@
+//! The words of the grammar, and how many operands they take.
+
+// The words of right sides, by the number of their operands.
+const NO_OPERAND: &str = "hole var reservedinst reservedconst";
+
+const ONE_OPERAND: &str = "zext sext trunc ctpop bswap bitreverse cttz ctlz freeze";
+
+const TWO_OPERANDS: &str =
+    "add addnsw addnuw addnw sub subnsw subnuw subnw mul mulnsw mulnuw mulnw \
+    udiv sdiv udivexact sdivexact urem srem and or xor shl shlnsw shlnuw shlnw lshr lshrexact ashr ashrexact \
+    eq ne ult slt ule sle sadd.with.overflow uadd.with.overflow ssub.with.overflow usub.with.overflow \
+    smul.with.overflow umul.with.overflow sadd.sat uadd.sat ssub.sat usub.sat extractvalue";
+
+const THREE_OPERANDS: &str = "select fshl fshr";
+
+/// The words that a right side begins with, in lists.
+pub(crate) const RIGHT_SIDES: [&str; 5] = [
+    "block phi",
+    NO_OPERAND,
+    ONE_OPERAND,
+    TWO_OPERANDS,
+    THREE_OPERANDS,
+];
+
+/// The words that begin a statement without a name.
+pub(crate) const CONDITIONS: &str = "pc blockpc";
+
+/// The attributes of a definition.
+pub(crate) const ATTRIBUTES: &str =
+    "knownBits powerOfTwo negative nonNegative nonZero hasExternalUses signBits range";
+
+/// The attributes of the root in a last line.
+pub(crate) const ROOT_ATTRIBUTES: &str = "demandedBits harvestedFromUse";
+
+/// Whether the word is in the list.
+pub(crate) fn has_word(words: &str, word: &str) -> bool {
+    words.split(' ').any(|other| other == word)
+}
+
+/// How many operands the word takes, if that is the same everywhere.
+pub(crate) fn operand_count(word: &str) -> Option<usize> {
+    match word {
+        "infer" | "result" => Some(1),
+        "pc" | "cand" => Some(2),
+        _ if has_word(TWO_OPERANDS, word) => Some(2),
+        _ if has_word(ONE_OPERAND, word) => Some(1),
+        _ if has_word(THREE_OPERANDS, word) => Some(3),
+        _ if has_word(NO_OPERAND, word) => Some(0),
+        _ => None,
+    }
+}
+
+/// Whether the word begins a statement or a last line.
+pub(crate) fn is_beginning(word: &str) -> bool {
+    matches!(word, "pc" | "blockpc" | "infer" | "result" | "cand")
+}
