@@ -11,11 +11,11 @@ use Rattle.souper_widths.specs.declared.flaws.WidthFlaw.{WidthFlaw}
 use Rattle.souper_widths.specs.declared.flaws.WidthReason.{WidthReason}
 use Rattle.souper_widths.specs.Maps.{WidthMap}
 use Rattle.souper_widths.specs.Places.{IsPlace}
-use Rattle.souper_widths.specs.Shape.{ShapedLine, ShapedAt, shape_reasons, HasShape}
+use Rattle.souper_widths.specs.Shape.{ShapedAt, shape_reasons, HasShape}
 use Rattle.souper_widths.specs.Limits.{KeepsAt, limit_reasons, KeepsLimits}
 use Rattle.souper_widths.specs.Kept.{KeptLine}
 use Rattle.souper_widths.specs.Flaws.{IsFirstFailing, IsFirstOfClass, IsShapeFlaw}
-use Rattle.souper_widths.specs.Lines.{Demand, IsFirstOfLine, LinesShaped, IsShapeFlawOfLines, LinesKept, IsLimitFlawOfLines}
+use Rattle.souper_widths.specs.Lines.{Demand, IsFirstOfLine, ShapedWith, LinesShaped, IsShapeFlawOfLines, LinesKept, IsLimitFlawOfLines}
 use Rattle.souper_widths.proofs.Locations.{each_location}
 use Rattle.souper_widths.proofs.KeptLimits.{line-kept, line-fails}
 
@@ -40,8 +40,8 @@ EachShaped a = (p : ℕ) → NeededIn a p → AllByRecursion (ShapedAt a (Statem
 abbrev pub EachKept : Item → WidthMap → Type 0
 EachKept a m = (p : ℕ) → NeededIn a p → AllByRecursion (KeepsAt a m (Statement p)) limit_reasons
 
-no-shape : (a : Item) (l : FlawLocation) (r : WidthReason) → IsFirstOfLine (λ xs attributes. ShapedLine a.statements xs) shape_reasons a.ending l r → line_operands l a.ending ≢ []
-no-shape a l r h = has-operands a.ending l (λ xs attributes. ShapedLine a.statements xs) shape_reasons r (tt, (tt, (tt, (tt, (tt, (tt, tt)))))) h
+no-shape : (a : Item) (l : FlawLocation) (r : WidthReason) → IsFirstOfLine (ShapedWith a.statements) shape_reasons a.ending l r → line_operands l a.ending ≢ []
+no-shape a l r h = has-operands a.ending l (ShapedWith a.statements) shape_reasons r (tt, (tt, (tt, (tt, (tt, (tt, tt)))))) h
 
 line-shape : (a : Item) (l : FlawLocation) (r : WidthReason) → EachShaped a → IsShapeFlawOfLines a.statements a.ending l r → IsShapeFlaw a l r
 line-shape a (Statement p) r each h = absurd h

@@ -33,11 +33,15 @@ IsFirstOfLines Meets rs e Infer r = IsFirstOfLine Meets rs e Infer r
 IsFirstOfLines Meets rs e Result r = LineMeets Meets rs e Infer × IsFirstOfLine Meets rs e Result r
 IsFirstOfLines Meets rs e Cand r = IsFirstOfLine Meets rs e Cand r
 
+-- the shape of a line does not depend on its attributes
+abbrev pub ShapedWith : List PlainStatement → Demand
+ShapedWith ss xs attributes r = ShapedLine ss xs r
+
 abbrev pub LinesShaped : List PlainStatement → Ending → Type 0
-LinesShaped ss e = LinesMeet (λ xs attributes. ShapedLine ss xs) shape_reasons e
+LinesShaped ss e = LinesMeet (ShapedWith ss) shape_reasons e
 
 abbrev pub IsShapeFlawOfLines : List PlainStatement → Ending → FlawLocation → WidthReason → Type 0
-IsShapeFlawOfLines ss e l r = IsFirstOfLines (λ xs attributes. ShapedLine ss xs) shape_reasons e l r
+IsShapeFlawOfLines ss e l r = IsFirstOfLines (ShapedWith ss) shape_reasons e l r
 
 -- the last lines keep their limits, if their operands have n bits
 abbrev pub LinesKept : ℕ → Ending → Type 0

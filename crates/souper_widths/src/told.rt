@@ -2,7 +2,7 @@
 
 ghost use Rattle.std.specs.Prelude.{◌≡◌, ◌↔◌, ◌+◌, ◌*◌, ℕ, map, length, slice_index, IsTrue, MatchOption};
 ghost use Rattle.souper_graph.specs.View.{view_statement};
-ghost use Rattle.souper_graph.specs.PartsView.{view_ending, view_parts};
+ghost use Rattle.souper_graph.specs.PartsView.{view_parts};
 ghost use Rattle.souper_graph.specs.Uses.{NeededIn};
 ghost use Rattle.souper_graph.specs.declared.ast.flaws.FlawLocation.TheVariants.{Statement as AtStatement};
 ghost use Rattle.souper_widths.specs.Lines.{IsFirstLine};
@@ -82,10 +82,10 @@ fn untold_statement(parts: &Parts<'_>, marks: &[bool], nodes: &[u16]) -> Option<
     None
 }
 
-fn first_line(ending: Ending<'_>) -> FlawLocation
-    ensures { IsFirstLine (view_ending ending) result }
+fn first_line(parts: &Parts<'_>) -> FlawLocation
+    ensures { IsFirstLine (view_parts parts.now).ending result }
 {
-    match ending {
+    match parts.ending {
         Ending::Infer(_) | Ending::Replaced(_, _) => FlawLocation::Infer,
         Ending::Result(_) => FlawLocation::Result,
         Ending::Cand(_) => FlawLocation::Cand,
@@ -108,7 +108,7 @@ pub(crate) fn first_untold(
         Some(position) => Some(FlawLocation::Statement(Id::at(position))),
         None => {
             if nodes[2 * parts.statements.len()] == 0 {
-                Some(first_line(parts.ending))
+                Some(first_line(parts))
             } else {
                 None
             }

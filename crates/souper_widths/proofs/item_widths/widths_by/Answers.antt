@@ -19,10 +19,10 @@ loop-position-preserved c =
     let f : ℕ → ℕ = shown_at a.statements c.args.marks.now (filled 1 c.args.nodes.now) in
     let g : ℕ → ℕ = operands_shown_at a.statements c.args.marks.now (filled 1 c.args.nodes.now) in
     record {
-      results = c.in_ok-push.ensures.items ∙ ap (λ (z : List ℕ). z ++ c.widths_at.result.0 ∷ []) c.loop-position.invariant.results
-          ∙ ap (λ (z : ℕ). listed f p ++ z ∷ []) (c.widths_at.ensures.own ∙ shows-result a c.args.marks.now c.args.nodes.now p q.marked q.told) ∙ ap (listed f) (sym (add-one p));
-      operands = c.in_ok-push-2.ensures.items ∙ ap (λ (z : List ℕ). z ++ c.widths_at.result.1 ∷ []) c.loop-position.invariant.operands
-          ∙ ap (λ (z : ℕ). listed g p ++ z ∷ []) (c.widths_at.ensures.used ∙ shows-operands a c.args.marks.now c.args.nodes.now p q.marked q.told) ∙ ap (listed g) (sym (add-one p));
+      results = c.in_ok-push.ensures.items ∙ ap (λ (z : List ℕ). z ++ c.widths_at-own.result.0 ∷ []) c.loop-position.invariant.results
+          ∙ ap (λ (z : ℕ). listed f p ++ z ∷ []) (c.widths_at-own.ensures.own ∙ shows-result a c.args.marks.now c.args.nodes.now p q.marked q.told) ∙ ap (listed f) (sym (add-one p));
+      operands = c.in_ok-push-2.ensures.items ∙ ap (λ (z : List ℕ). z ++ c.widths_at-own.result.1 ∷ []) c.loop-position.invariant.operands
+          ∙ ap (λ (z : ℕ). listed g p ++ z ∷ []) (c.widths_at-own.ensures.used ∙ shows-operands a c.args.marks.now c.args.nodes.now p q.marked q.told) ∙ ap (listed g) (sym (add-one p));
     }
 
 pub returns : goal.returns

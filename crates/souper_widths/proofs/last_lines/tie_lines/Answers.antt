@@ -18,12 +18,6 @@ operands-by l e f q = ap (λ (z : ByReference). line_operands l (view_ending z))
 place-by : (l : FlawLocation) (e f : ByReference) → e ≡ f → line_operands l (view_ending f) ≢ [] → line_operands l (view_ending e) ≢ []
 place-by l e f q n = subst (λ (z : ByReference). line_operands l (view_ending z) ≢ []) (sym q) n
 
-pub tie_line-requires-clause-own : goal.tie_line-requires-clause-own
-tie_line-requires-clause-own c = sym (operands-by Infer _ _ c.in-Infer.is)
-
-pub tie_line-requires-clause-place : goal.tie_line-requires-clause-place
-tie_line-requires-clause-place c = place-by Infer _ _ c.in-Infer.is (λ z. absurd (cc z))
-
 pub tie_line-requires-clause-before : goal.tie_line-requires-clause-before
 tie_line-requires-clause-before c =
     let a : Item = view_parts c.args.parts.now in
@@ -42,14 +36,8 @@ returns-in-Infer-clause-ok c =
     (after-infer a ps ns qs ms (operands-by result_line _ _ c.in-Infer.is) (operands-by Cand _ _ c.in-Infer.is) (before-infer a ps ns c.requires.well_formed c.requires.before) (place-by Infer _ _ c.in-Infer.is (λ z. absurd (cc z))))
     c.tie_line.ensures.ok
 
-pub tie_line-in-Result-requires-clause-own : goal.tie_line-in-Result-requires-clause-own
-tie_line-in-Result-requires-clause-own c = sym (operands-by result_line _ _ c.in-Result.is)
-
-pub tie_line-in-Result-requires-clause-place : goal.tie_line-in-Result-requires-clause-place
-tie_line-in-Result-requires-clause-place c = place-by result_line _ _ c.in-Result.is (λ z. absurd (cc z))
-
-pub tie_line-in-Result-requires-clause-before : goal.tie_line-in-Result-requires-clause-before
-tie_line-in-Result-requires-clause-before c =
+pub tie_line-requires-in-Result-clause-before : goal.tie_line-requires-in-Result-clause-before
+tie_line-requires-in-Result-clause-before c =
     let a : Item = view_parts c.args.parts.now in
     let ps = c.args.parents.now in
     let ns = c.args.numbers.now in
@@ -66,14 +54,8 @@ returns-in-Result-clause-ok c =
     (after-result a ps ns qs ms (operands-by Cand _ _ c.in-Result.is) (before-result a ps ns c.requires.well_formed (operands-by Infer _ _ c.in-Result.is) c.requires.before) (place-by result_line _ _ c.in-Result.is (λ z. absurd (cc z))))
     c.tie_line-in-Result.ensures.ok
 
-pub tie_line-in-Cand-requires-clause-own : goal.tie_line-in-Cand-requires-clause-own
-tie_line-in-Cand-requires-clause-own c = sym (operands-by Cand _ _ c.in-Cand.is)
-
-pub tie_line-in-Cand-requires-clause-place : goal.tie_line-in-Cand-requires-clause-place
-tie_line-in-Cand-requires-clause-place c = place-by Cand _ _ c.in-Cand.is (λ z. absurd (cc z))
-
-pub tie_line-in-Cand-requires-clause-before : goal.tie_line-in-Cand-requires-clause-before
-tie_line-in-Cand-requires-clause-before c =
+pub tie_line-requires-in-Cand-clause-before : goal.tie_line-requires-in-Cand-clause-before
+tie_line-requires-in-Cand-clause-before c =
     let a : Item = view_parts c.args.parts.now in
     let ps = c.args.parents.now in
     let ns = c.args.numbers.now in
@@ -90,27 +72,15 @@ returns-in-Cand-clause-ok c =
     (after-cand a ps ns qs ms (operands-by Infer _ _ c.in-Cand.is) (operands-by result_line _ _ c.in-Cand.is) (before-cand a ps ns c.requires.well_formed c.requires.before) (place-by Cand _ _ c.in-Cand.is (λ z. absurd (cc z))))
     c.tie_line-in-Cand.ensures.ok
 
-pub tie_line-in-Replaced-requires-clause-own : goal.tie_line-in-Replaced-requires-clause-own
-tie_line-in-Replaced-requires-clause-own c = sym (operands-by Infer _ _ c.in-Replaced.is)
-
-pub tie_line-in-Replaced-requires-clause-place : goal.tie_line-in-Replaced-requires-clause-place
-tie_line-in-Replaced-requires-clause-place c = place-by Infer _ _ c.in-Replaced.is (λ z. absurd (cc z))
-
-pub tie_line-in-Replaced-requires-clause-before : goal.tie_line-in-Replaced-requires-clause-before
-tie_line-in-Replaced-requires-clause-before c =
+pub tie_line-requires-in-Replaced-clause-before : goal.tie_line-requires-in-Replaced-clause-before
+tie_line-requires-in-Replaced-clause-before c =
     let a : Item = view_parts c.args.parts.now in
     let ps = c.args.parents.now in
     let ns = c.args.numbers.now in
     before-infer a ps ns c.requires.well_formed c.requires.before
 
-pub tie_line-in-Ok-requires-clause-own : goal.tie_line-in-Ok-requires-clause-own
-tie_line-in-Ok-requires-clause-own c = sym (operands-by result_line _ _ c.in-Replaced.is)
-
-pub tie_line-in-Ok-requires-clause-place : goal.tie_line-in-Ok-requires-clause-place
-tie_line-in-Ok-requires-clause-place c = place-by result_line _ _ c.in-Replaced.is (λ z. absurd (cc z))
-
-pub tie_line-in-Ok-requires-clause-before : goal.tie_line-in-Ok-requires-clause-before
-tie_line-in-Ok-requires-clause-before c =
+pub tie_line-requires-in-Ok-clause-before : goal.tie_line-requires-in-Ok-clause-before
+tie_line-requires-in-Ok-clause-before c =
     let a : Item = view_parts c.args.parts.now in
     let ps = c.args.parents.now in
     let ns = c.args.numbers.now in

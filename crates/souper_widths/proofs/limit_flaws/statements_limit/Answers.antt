@@ -15,9 +15,9 @@ pub loop-position-preserved : goal.loop-position-preserved
 loop-position-preserved c =
     let w = c.args.widths.now in
     let n : ℕ = c.loop-position.position in
-    kept-more (view_parts c.args.parts.now) (view_widths w) n c.index.result.now c.index-2.result.now
+    kept-more (view_parts c.args.parts.now) (view_widths w) n c.index.result.now c.index-in-loop-position.result.now
     (c.index.ensures ∙ get_or_default w.results.items n c.index.result.now 0 (omega (arith, c.loop-position-test.true, c.requires.results)))
-    (c.index-2.ensures ∙ get_or_default w.operands.items n c.index-2.result.now 0 (omega (arith, c.loop-position-test.true, c.requires.operands)))
+    (c.index-in-loop-position.ensures ∙ get_or_default w.operands.items n c.index-in-loop-position.result.now 0 (omega (arith, c.loop-position-test.true, c.requires.operands)))
     (λ n. c.in-None.ensures ((c.requires.marked.exact c.loop-position.position).1 n)) c.loop-position.invariant
 
 pub returns : goal.returns
@@ -31,7 +31,7 @@ returns-in-Some c =
     let m : WidthMap = view_widths c.args.widths.now in
     let n : ℕ = c.loop-position.position in
     subst (λ (z : ℕ). IsFirstOfClass a (KeepsAt a m) limit_reasons (Statement z) c.in-Some.reason) (sym c.at.ensures)
-    (limit-first a m n c.index.result.now c.index-2.result.now c.in-Some.reason
+    (limit-first a m n c.index.result.now c.index-in-loop-position.result.now c.in-Some.reason
     (c.index.ensures ∙ get_or_default m.results n c.index.result.now 0 (omega (arith, c.loop-position-test.true, c.requires.results)))
-    (c.index-2.ensures ∙ get_or_default m.operands n c.index-2.result.now 0 (omega (arith, c.loop-position-test.true, c.requires.operands)))
+    (c.index-in-loop-position.ensures ∙ get_or_default m.operands n c.index-in-loop-position.result.now 0 (omega (arith, c.loop-position-test.true, c.requires.operands)))
     ((c.requires.marked.exact n).0 c.in-Some.ensures.0) c.in-Some.ensures.1 c.loop-position.invariant)

@@ -58,8 +58,8 @@ returns-in-Some-limit_flaw-clause-flawed c =
       limit-is_flaw a c.in-Some-limit_flaw.flaw.location c.in-Some-limit_flaw.flaw.reason (m, only, c.in-Some-limit_flaw.ensures),
     )
 
-pub returns-in-None-clause-typed : goal.returns-in-None-clause-typed
-returns-in-None-clause-typed c =
+pub returns-clause-typed : goal.returns-clause-typed
+returns-clause-typed c =
     let a : Item = view_parts c.args.parts.now in
     let m : WidthMap = view_widths c.in_ok-widths.widths in
     let told : AllTold a c.deref-2.result.now = subst (AllTold a) (c.deref.ensures.value ∙ sym c.deref-2.ensures.value) c.in_default-first_untold.ensures in
