@@ -1,5 +1,5 @@
 -- The classes of the places before a last line, and after it.
-use Rattle.std.proofs.Common.{◌≡◌, ℕ, List, [], length, Result, Ok, Err, ap}
+use Rattle.std.proofs.Common.{◌≡◌, ℕ, List, [], length, Result, Ok, Err}
 use Rattle.std.specs.Prelude.{OnOk}
 use Rattle.souper_graph.specs.declared.ast.flaws.FlawLocation.{FlawLocation}
 use Rattle.souper_graph.specs.declared.ast.flaws.FlawLocation.TheVariants.{Statement, Infer, Result as result_line, Cand}

@@ -1,5 +1,5 @@
 -- The last lines: which are places, and the first flaw of these as the first of its class.
-use Rattle.std.proofs.Common.{◌≡◌, ◌≢◌, ℕ, inl, inr, List, [], ◌∷◌, Option, Some, None, subst}
+use Rattle.std.proofs.Common.{◌≢◌, ℕ, inl, inr, List, [], ◌∷◌, Option, Some, None}
 use Rattle.std.specs.Prelude.{MatchOption}
 use Rattle.std.specs.List.{AllByRecursion}
 use Rattle.souper_graph.specs.declared.ast.flaws.FlawLocation.{FlawLocation}

@@ -1,5 +1,5 @@
 -- The first place that is not told, and the map of widths that are.
-use Rattle.std.proofs.Common.{◌≡◌, ◌≢◌, ◌⊎◌, ℕ, ◌+◌, ◌*◌, ◌<◌, inl, inr, Bool, true, false, cond, List, [], ◌∷◌, length, map, get_or, Option, refl, sym, ap, subst, ◌∙◌, arith}
+use Rattle.std.proofs.Common.{◌≡◌, ◌≢◌, ℕ, ◌+◌, ◌*◌, ◌<◌, inl, inr, Bool, true, false, cond, List, [], length, map, get_or, Option, refl, sym, ap, subst, ◌∙◌, arith}
 use Rattle.std.specs.Prelude.{slice_get, option_map}
 use Rattle.std.proofs.lemmas.Bool.Decides.{eqb_tells}
 use Rattle.souper_graph.specs.declared.ast.flaws.FlawLocation.{FlawLocation}
@@ -11,7 +11,7 @@ use Rattle.souper_graph.specs.Uses.{NeededIn}
 use Rattle.souper_graph.specs.WellFormed.{WellFormed}
 use Rattle.souper_graph.specs.Flaws.{IsBefore, line_operands}
 use Rattle.souper_widths.specs.declared.rows.Row.{Row}
-use Rattle.souper_widths.specs.declared.rows.Row.TheVariants.{Input, Block, Phi, Same, Bit, Resized, Select, Pair, Number as number_row, Overflow, BadPart, Condition}
+use Rattle.souper_widths.specs.declared.rows.Row.TheVariants.{Input, Block, BadPart, Condition}
 use Rattle.souper_widths.specs.Maps.{WidthMap}
 use Rattle.souper_widths.specs.Places.{IsPlace}
 use Rattle.souper_widths.specs.Shape.{HasShape}

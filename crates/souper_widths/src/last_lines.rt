@@ -73,22 +73,57 @@ pub(crate) fn tie_lines(
     match parts.ending {
         Ending::Infer(lhs) => {
             let operands = [Operand::Value(lhs.value)];
-            tie_line(&mut ties, parts, FlawLocation::Infer, &operands, parents, numbers)
+            tie_line(
+                &mut ties,
+                parts,
+                FlawLocation::Infer,
+                &operands,
+                parents,
+                numbers,
+            )
         }
         Ending::Result(rhs) => {
             let operands = [*rhs];
-            tie_line(&mut ties, parts, FlawLocation::Result, &operands, parents, numbers)
+            tie_line(
+                &mut ties,
+                parts,
+                FlawLocation::Result,
+                &operands,
+                parents,
+                numbers,
+            )
         }
         Ending::Cand(cand) => {
             let operands = [cand.lhs, cand.rhs];
-            tie_line(&mut ties, parts, FlawLocation::Cand, &operands, parents, numbers)
+            tie_line(
+                &mut ties,
+                parts,
+                FlawLocation::Cand,
+                &operands,
+                parents,
+                numbers,
+            )
         }
         Ending::Replaced(lhs, rhs) => {
             let operands = [Operand::Value(lhs.value)];
-            match tie_line(&mut ties, parts, FlawLocation::Infer, &operands, parents, numbers) {
+            match tie_line(
+                &mut ties,
+                parts,
+                FlawLocation::Infer,
+                &operands,
+                parents,
+                numbers,
+            ) {
                 Ok(()) => {
                     let operands = [*rhs];
-                    tie_line(&mut ties, parts, FlawLocation::Result, &operands, parents, numbers)
+                    tie_line(
+                        &mut ties,
+                        parts,
+                        FlawLocation::Result,
+                        &operands,
+                        parents,
+                        numbers,
+                    )
                 }
                 Err(error) => Err(error),
             }

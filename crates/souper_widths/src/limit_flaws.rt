@@ -14,8 +14,8 @@ ghost use Rattle.souper_widths.specs.Lines.{LinesKept, IsLimitFlawOfLines};
 ghost use Rattle.souper_widths.specs.Nodes.{MarkNeeded};
 
 use crate::flaws::{WidthFlaw, WidthReason};
-use crate::limits::{limit_reason, line_reason};
 use crate::item_widths::Widths;
+use crate::limits::{limit_reason, line_reason};
 use souper_graph::ast::{Arena, Ending, FlawLocation, Id, Operand, Parts, Statement};
 
 // The first reason of the statement at a position with a result and operands of these widths, if it is needed.

@@ -44,12 +44,7 @@ fn is_told_row(row: Row, own: u16, operands: u16) -> bool
 }
 
 // The widths of the statement at a position are told, if it is needed.
-fn is_told(
-    statements: &Arena<Statement>,
-    position: usize,
-    is_needed: bool,
-    nodes: &[u16],
-) -> bool
+fn is_told(statements: &Arena<Statement>, position: usize, is_needed: bool, nodes: &[u16]) -> bool
     requires { length nodes.now ≡ 2 * length statements.now + 1 }
     ensures { IsTrue result
         ↔ (IsTrue is_needed → IsToldRow (row_at (map view_statement statements.now) position) (slice_index nodes.now (2 * position)) (slice_index nodes.now (2 * position + 1))) }
@@ -93,11 +88,7 @@ fn first_line(parts: &Parts<'_>) -> FlawLocation
 }
 
 // The first place that is not told.
-pub(crate) fn first_untold(
-    parts: &Parts<'_>,
-    marks: &[bool],
-    nodes: &[u16],
-) -> Option<FlawLocation>
+pub(crate) fn first_untold(parts: &Parts<'_>, marks: &[bool], nodes: &[u16]) -> Option<FlawLocation>
     requires marked { MarkNeeded (view_parts parts.now) marks.now }
     requires size { length nodes.now ≡ 2 * length (view_parts parts.now).statements + 1 }
     ensures { MatchOption result

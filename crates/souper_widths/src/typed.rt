@@ -10,8 +10,8 @@ ghost use Rattle.souper_widths.specs.Errors.{IsWidthsError};
 ghost use Rattle.souper_widths.specs.Nodes.{MarkNeeded};
 
 use crate::flaws::{WidthFlaw, WidthReason, WidthsError};
-use crate::limit_flaws::limit_flaw;
 use crate::item_widths::{Widths, widths_by};
+use crate::limit_flaws::limit_flaw;
 use crate::places::{marks_of, shape_flaw};
 use crate::solution::node_widths;
 use crate::told::first_untold;

@@ -1,4 +1,4 @@
-use Rattle.std.proofs.Common.{◌≡◌, ℕ, length, sym, subst, ◌∙◌}
+use Rattle.std.proofs.Common.{ℕ, subst}
 use Rattle.souper_graph.specs.declared.ast.flaws.FlawLocation.TheVariants.{Statement}
 use Rattle.souper_graph.specs.Flaws.{IsBefore}
 use Rattle.souper_graph.specs.PartsView.{view_parts}

@@ -1,4 +1,4 @@
-use Rattle.std.proofs.Common.{◌<◌, ℕ, length, refl, arith}
+use Rattle.std.proofs.Common.{◌<◌, length, refl, arith}
 use Rattle.souper_graph.specs.PartsView.{view_parts}
 use Rattle.souper_widths.proofs.Marks.{true-inside}
 use Rattle.souper_widths.proofs.Untold.{told-more, statement-untold}

@@ -1,4 +1,4 @@
-use Rattle.std.proofs.Common.{◌≡◌, ℕ, ◌+◌, ◌*◌, List, length, sym, ap, subst, ◌∙◌}
+use Rattle.std.proofs.Common.{ℕ, List, length, sym, ap, subst, ◌∙◌}
 use Rattle.souper_graph.specs.Values.{Item}
 use Rattle.souper_graph.specs.PartsView.{view_parts}
 use Rattle.souper_widths.specs.Maps.{WidthMap}
@@ -6,7 +6,7 @@ use Rattle.souper_widths.specs.View.{view_widths}
 use Rattle.souper_widths.specs.Flaws.{IsOnlySolution}
 use Rattle.souper_widths.specs.Nodes.{shown_at, operands_shown_at}
 use Rattle.souper_widths.specs.Forest.{filled}
-use Rattle.souper_widths.specs.Told.{AllTold, map_told}
+use Rattle.souper_widths.specs.Told.{AllTold}
 use Rattle.souper_widths.proofs.NodeWidths.{length-listed}
 use Rattle.souper_widths.proofs.Untold.{undetermined-of, solution-of}
 use Rattle.souper_widths.proofs.FlawClasses.{shape-is_flaw, limit-is_flaw}

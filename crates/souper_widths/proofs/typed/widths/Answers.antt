@@ -1,13 +1,10 @@
-use Rattle.std.proofs.Common.{◌≡◌, ◌↔◌, ◌<◌, ℕ, List, Option, Some, None, Result, Ok, Err, length, refl, sym, subst}
+use Rattle.std.proofs.Common.{◌↔◌, ◌<◌, ℕ, List, Option, Result, Ok, Err, length, refl, sym, subst}
 use Rattle.std.specs.Prelude.{IsNone, IfSome, IfOk, IfErr}
 use Rattle.souper_graph.specs.declared.ast.flaws.Flaw.{Flaw}
 use Rattle.souper_graph.specs.Values.{Item}
 use Rattle.souper_graph.specs.Uses.{Has, NeededIn}
 use Rattle.souper_graph.specs.WellFormed.{WellFormed}
 use Rattle.souper_graph.specs.Flaws.{IsFirstFlaw}
-use Rattle.souper_graph.specs.PartsView.{view_parts}
-use Rattle.souper_widths.specs.declared.item_widths.Widths.{Widths}
-use Rattle.souper_widths.specs.declared.flaws.WidthsError.{WidthsError}
 use Rattle.souper_widths.specs.View.{view_widths}
 use Rattle.souper_widths.specs.Typed.{Typed}
 use Rattle.souper_widths.specs.Errors.{IsWidthsError}
