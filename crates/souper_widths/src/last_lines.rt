@@ -16,12 +16,11 @@ ghost use Rattle.souper_widths.specs.Errors.{IsWidthsError};
 use crate::equations::push_operand_ties;
 use crate::flaws::{WidthFlaw, WidthReason, WidthsError};
 use crate::solving::tie_all;
-use crate::ties::{Side, Tie};
+use crate::ties::Side;
 use souper_graph::ast::{Ending, FlawLocation, Operand, Parts};
 
 // Ties the equations of a last line. The error is a conflict.
 fn tie_line(
-    ties: &mut Vec<Tie>,
     parts: &Parts<'_>,
     location: FlawLocation,
     operands: &[Operand],
@@ -42,9 +41,9 @@ fn tie_line(
     ensures err { IfErr result (λ error. IsWidthsError (view_parts parts.now) error) }
 {
     let count = parts.statements.len();
-    ties.clear();
-    push_operand_ties(ties, operands, Side::Node(2 * count), 0, count)?;
-    match tie_all(parents, numbers, ties) {
+    let mut ties = Vec::new(parts.statements.allocator());
+    push_operand_ties(&mut ties, operands, Side::Node(2 * count), 0, count)?;
+    match tie_all(parents, numbers, &ties) {
         Ok(()) => Ok(()),
         Err((left, right)) => {
             let reason = WidthReason::Conflict { left, right };
@@ -69,61 +68,25 @@ pub(crate) fn tie_lines(
     ensures ok { OnOk result (ClassesOf (view_parts parts.now) (λ k. Unit {0}) parents.new numbers.new) }
     ensures err { IfErr result (λ error. IsWidthsError (view_parts parts.now) error) }
 {
-    let mut ties = Vec::new(parts.statements.allocator());
     match parts.ending {
         Ending::Infer(lhs) => {
             let operands = [Operand::Value(lhs.value)];
-            tie_line(
-                &mut ties,
-                parts,
-                FlawLocation::Infer,
-                &operands,
-                parents,
-                numbers,
-            )
+            tie_line(parts, FlawLocation::Infer, &operands, parents, numbers)
         }
         Ending::Result(rhs) => {
             let operands = [*rhs];
-            tie_line(
-                &mut ties,
-                parts,
-                FlawLocation::Result,
-                &operands,
-                parents,
-                numbers,
-            )
+            tie_line(parts, FlawLocation::Result, &operands, parents, numbers)
         }
         Ending::Cand(cand) => {
             let operands = [cand.lhs, cand.rhs];
-            tie_line(
-                &mut ties,
-                parts,
-                FlawLocation::Cand,
-                &operands,
-                parents,
-                numbers,
-            )
+            tie_line(parts, FlawLocation::Cand, &operands, parents, numbers)
         }
         Ending::Replaced(lhs, rhs) => {
             let operands = [Operand::Value(lhs.value)];
-            match tie_line(
-                &mut ties,
-                parts,
-                FlawLocation::Infer,
-                &operands,
-                parents,
-                numbers,
-            ) {
+            match tie_line(parts, FlawLocation::Infer, &operands, parents, numbers) {
                 Ok(()) => {
                     let operands = [*rhs];
-                    tie_line(
-                        &mut ties,
-                        parts,
-                        FlawLocation::Result,
-                        &operands,
-                        parents,
-                        numbers,
-                    )
+                    tie_line(parts, FlawLocation::Result, &operands, parents, numbers)
                 }
                 Err(error) => Err(error),
             }

@@ -26,7 +26,7 @@ tie_all-requires-clause-sides c =
     let a : Item = view_parts c.args.parts.now in
     let size : c.len-count.result ≡ length a.statements = c.len-count.ensures ∙ sym (length-map c.args.parts.now.statements.now view_statement) in
     let same : c.deref.result.now ≡ ties_at a c.args.location =
-    c.deref.ensures.value ∙ c.in_ok-push_operand_ties.ensures ∙ ap (λ (z : List Tie). z ++ flat_map (λ (x : Operand). operand_tie x (Node (2 * c.len-count.result)) 0) c.args.operands.now) c.clear.ensures.items
+    c.deref.ensures.value ∙ c.in_ok-push_operand_ties.ensures ∙ ap (λ (z : List Tie). z ++ flat_map (λ (x : Operand). operand_tie x (Node (2 * c.len-count.result)) 0) c.args.operands.now) c.new-ties.ensures.items
     ∙ ap (λ (z : ℕ). flat_map (λ (x : Operand). operand_tie x (Node (2 * z)) 0) c.args.operands.now) size ∙ sym (line-ties a c.args.location c.args.operands.now c.requires.line c.requires.own) in
     subst (λ (z : ℕ). AllByRecursion (HasSides z) c.deref.result.now) (sym c.requires.size)
     (subst (AllByRecursion (HasSides (2 * length a.statements + 1))) (sym same) (place-sides a c.args.location c.requires.well_formed c.requires.place))
@@ -36,19 +36,19 @@ returns-in-Ok-clause-ok c =
     let a : Item = view_parts c.args.parts.now in
     let size : c.len-count.result ≡ length a.statements = c.len-count.ensures ∙ sym (length-map c.args.parts.now.statements.now view_statement) in
     let same : c.deref.result.now ≡ ties_at a c.args.location =
-    c.deref.ensures.value ∙ c.in_ok-push_operand_ties.ensures ∙ ap (λ (z : List Tie). z ++ flat_map (λ (x : Operand). operand_tie x (Node (2 * c.len-count.result)) 0) c.args.operands.now) c.clear.ensures.items
+    c.deref.ensures.value ∙ c.in_ok-push_operand_ties.ensures ∙ ap (λ (z : List Tie). z ++ flat_map (λ (x : Operand). operand_tie x (Node (2 * c.len-count.result)) 0) c.args.operands.now) c.new-ties.ensures.items
     ∙ ap (λ (z : ℕ). flat_map (λ (x : Operand). operand_tie x (Node (2 * z)) 0) c.args.operands.now) size ∙ sym (line-ties a c.args.location c.args.operands.now c.requires.line c.requires.own) in
     subst (AddsTies c.args.parents.now c.args.numbers.now c.tie_all.new.parents c.tie_all.new.numbers) same c.in-Ok.ensures.ok
 
-pub returns-in-Err-clause-err : goal.returns-in-Err-clause-err
-returns-in-Err-clause-err c =
+pub returns-clause-err : goal.returns-clause-err
+returns-clause-err c =
     let a : Item = view_parts c.args.parts.now in
     let q = c.requires in
     let ps = c.args.parents.now in
     let ns = c.args.numbers.now in
     let size : c.len-count.result ≡ length a.statements = c.len-count.ensures ∙ sym (length-map c.args.parts.now.statements.now view_statement) in
     let same : c.deref.result.now ≡ ties_at a c.args.location =
-    c.deref.ensures.value ∙ c.in_ok-push_operand_ties.ensures ∙ ap (λ (z : List Tie). z ++ flat_map (λ (x : Operand). operand_tie x (Node (2 * c.len-count.result)) 0) c.args.operands.now) c.clear.ensures.items
+    c.deref.ensures.value ∙ c.in_ok-push_operand_ties.ensures ∙ ap (λ (z : List Tie). z ++ flat_map (λ (x : Operand). operand_tie x (Node (2 * c.len-count.result)) 0) c.args.operands.now) c.new-ties.ensures.items
     ∙ ap (λ (z : ℕ). flat_map (λ (x : Operand). operand_tie x (Node (2 * z)) 0) c.args.operands.now) size ∙ sym (line-ties a c.args.location c.args.operands.now c.requires.line c.requires.own) in (
       q.well_formed,
       (
