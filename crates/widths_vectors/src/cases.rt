@@ -18,9 +18,10 @@ fn push_widths(rt: &impl Abort, text: &mut String, found: &Widths) {
 
 fn push_flaw(rt: &impl Abort, text: &mut String, flaw: WidthFlaw) {
     match flaw.location {
-        FlawLocation::Statement(id) => write!(text, "statement {}", id.index()).expect(
-            rt, "memory",
-        ),
+        FlawLocation::Statement(id) => {
+            let index = id.index();
+            write!(text, "statement {index}").expect(rt, "memory");
+        }
         FlawLocation::Infer => text.push_str("infer").expect(rt, "memory"),
         FlawLocation::Result => text.push_str("result").expect(rt, "memory"),
         FlawLocation::Cand => text.push_str("cand").expect(rt, "memory"),
