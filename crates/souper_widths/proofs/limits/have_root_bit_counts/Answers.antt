@@ -1,0 +1,11 @@
+use Rattle.std.proofs.Common.{rules}
+use Rattle.souper_graph.specs.View.{view_root_attribute}
+use Rattle.souper_graph.proofs.Judging.Closed.{All-map_at}
+use Rattle.souper_widths.specs.Limits.{HasRootBitCount}
+use Rattle.souper_widths.proofs.limits.have_root_bit_counts.Goals as goal
+
+pub returns-then-not-has_root_bit_count : goal.returns-then-not-has_root_bit_count
+returns-then-not-has_root_bit_count c = (
+  (λ e. absurd (cc)),
+  (λ all. c.if-not-has_root_bit_count.ensures.1 (All-map_at (HasRootBitCount c.args.width) view_root_attribute c.args.attributes.now c.loop-attribute.attribute-index c.attribute-item.result (search rules) c.attribute-item.is all)),
+)

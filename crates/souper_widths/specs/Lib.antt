@@ -1,0 +1,17 @@
+pub mod Maps
+pub mod View
+pub mod Equations
+pub mod Table
+pub mod Places
+pub mod Shape
+pub mod Limits
+pub mod Kept
+pub mod Typed
+pub mod Flaws
+pub mod Lines
+pub mod Errors
+pub mod Examples
+pub mod Forest
+pub mod Ties
+pub mod Nodes
+pub mod Told
