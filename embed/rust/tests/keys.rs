@@ -3,6 +3,7 @@ mod common;
 
 use common::records;
 use souper_ir::canonical::{format, key, Error, Kind, Record};
+use souper_ir::parse::ParseError;
 
 const PLAIN: Record = Record {
     key: false,
@@ -63,7 +64,7 @@ fn a_plain_record_is_the_canonical_text() {
         match plain {
             Err(error) => {
                 assert!(record.is_refused);
-                assert_eq!(error.to_string(), record.answer);
+                assert_eq!(ParseError::from(error).to_string(), record.answer);
             }
             Ok(plain) => assert_eq!(plain, record.answer),
         }

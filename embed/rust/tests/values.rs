@@ -99,7 +99,7 @@ fn each_code_comes_back() {
 fn a_refused_text_has_no_code() {
     for record in records().iter().filter(|record| record.is_refused) {
         let error = code::read(record.kind, &record.text).unwrap_err();
-        assert_eq!(error.to_string(), record.answer);
+        assert_eq!(ParseError::from(error).to_string(), record.answer);
     }
 }
 
