@@ -1,4 +1,4 @@
-//! Texts that are harder than most: long names with one prefix, long comments, much white space, and invalid items alone.
+//! Texts that are harder than most: long names with one prefix, long comments, much white space, and refusals of every item.
 use crate::session::Session;
 use crate::texts::Shape;
 use crate::words::Names;

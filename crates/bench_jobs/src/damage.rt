@@ -1,4 +1,4 @@
-//! Harvests with damage, with recovery: few items are rejected, or every second one.
+//! Harvests with damage, with recovery: few items are refused, or every second one.
 use crate::session::Session;
 use crate::texts::Shape;
 use souper_format::command::Kind;
@@ -8,7 +8,7 @@ use souper_records::layout::PLAIN;
 // How many bytes a file has.
 const FILE: usize = 1 << 20;
 
-/// Formats some files of about 1 MiB each and finds their distinct items, and resumes after each parse error.
+/// Formats some files of about 1 MiB each and finds their distinct items, and resumes after each refusal.
 pub(crate) fn run(session: &mut Session, count: u64) -> anyhow::Result<()> {
     for file in 0..count {
         session.texts.text.clear();

@@ -68,7 +68,7 @@ impl Session {
         })
     }
 
-    /// Writes the records of the items of the text, as a stream. With `keep_going` it resumes after a parse error.
+    /// Writes the records of the items of the text, as a stream. With `keep_going` it resumes after a refusal.
     pub(crate) fn each<T: StreamItem + Drop>(
         &mut self,
         layout: Layout,
@@ -110,7 +110,7 @@ impl Session {
         Ok(())
     }
 
-    /// Writes the records of the first items of their graphs in one text, and resumes after a parse error.
+    /// Writes the records of the first items of their graphs in one text, and resumes after a refusal.
     pub(crate) fn distinct_going_on(&mut self, layout: Layout, text: &str) -> anyhow::Result<()> {
         let mut out = Watched::new(Output {
             digest: &mut self.out,

@@ -30,7 +30,7 @@ pub(crate) struct Shape {
     /// Whether the white space between tokens is of all kinds.
     pub(crate) spaced: bool,
 
-    /// How many of 1,024 items are rejected.
+    /// How many of 1,024 items are refused.
     pub(crate) refused: u64,
 }
 

@@ -131,7 +131,7 @@ pub(crate) const ROOT_ATTRIBUTES: [&str; 4] = [
 /// White space between tokens, as few writers make it.
 pub(crate) const SPACES: [&str; 4] = ["  ", "\t", " \t", "   "];
 
-/// Lines that reject the item that they are put into.
+/// Lines that refuse the item that they are put into.
 pub(crate) const REFUSED: [&str; 4] = [
     "%q = add %undefined, 1\n",
     "%q = addd 1, 2\n",
