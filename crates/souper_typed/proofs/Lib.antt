@@ -1,0 +1,9 @@
+mod Numbers
+mod Lists
+mod Operands
+mod Equations
+mod Statements
+mod Graphs
+mod Places
+mod Widths
+mod Loops
