@@ -3,7 +3,7 @@ use Rattle.std.proofs.Common.{◌≡◌, ℕ, zero, suc, ◌+◌, ◌<◌, List,
 use Rattle.std.specs.Prelude.{if◌then◌else◌, slice_get, option_map}
 use Rattle.std.specs.List.{AllByRecursion}
 use Rattle.std.proofs.lemmas.List.{length-map}
-use Rattle.souper_graph.specs.Values.{PlainRhs, phi, PlainAssignment, PlainStatement, assigned, condition, block_condition, Item}
+use Rattle.souper_graph.specs.Values.{PlainRhs, phi, PlainAssignment, PlainStatement, assigned, condition, block_condition, Ending, Item}
 use Rattle.souper_graph.specs.Uses.{Has, Use, value_use, block_use, position_of, uses_of, uses_of_optional, used_at, is_condition, conditions_from, conditions, first_roots, last_roots, roots_of, first_walks, walks_of, Needed, walked, used, NeededIn}
 use Rattle.souper_graph.specs.WellFormed.{IsAssigned, IsBlock, IsMet, AreMet, FitsStatement, predecessors_of, predecessors_at, AgreesRhs, AgreesWithBlock, Closed, AreNamedApart, WellFormed}
 use Rattle.souper_graph.specs.Judging.{assigned_name}
@@ -39,11 +39,14 @@ from-again f m k (s ∷ ss) =
     ap (λ (z : PlainStatement). z ∷ written_from f m (suc k) (written_from f m (suc k) ss)) (with-again f (result_width m k) (operand_width m k) s)
     ∙ ap (λ (z : List PlainStatement). written_at f m k s ∷ z) (from-again f m (suc k) ss)
 
+abbrev item_of : List PlainStatement → Ending → Item
+item_of ss e = record { statements = ss; ending = e }
+
 pub item-again : (f : Form) (m : WidthMap) (a : Item) → written_item f m (written_item f m a) ≡ written_item f m a
 item-again f m a =
     let b : Item = written_item f m a in
-    ap (λ (z : List PlainStatement). record { statements = z; ending = written_ending f m.root b.ending }) (from-again f m 0 a.statements)
-    ∙ ap (λ z. record { statements = b.statements; ending = z }) (ending-again f m.root a.ending)
+    ap (λ (z : List PlainStatement). item_of z (written_ending f m.root b.ending)) (from-again f m 0 a.statements)
+    ∙ ap (λ (z : Ending). item_of b.statements z) (ending-again f m.root a.ending)
 
 conditions-are : (f : Form) (m : WidthMap) (k : ℕ) (ss : List PlainStatement) → conditions_from k (written_from f m k ss) ≡ conditions_from k ss
 conditions-are f m k [] = refl

@@ -38,11 +38,20 @@ width-tells n = elim (lt-tells 0 n) [
   | inr s ↦ inr (first-false (nat_lt 0 n) (nat_lt n 65536) s.0, λ h. absurd (omega (arith, h, s.1)))
 ]
 
+abbrev type_if : ℕ → Bool → Option Ty
+type_if n b = if b then Some (record { width = n }) else None
+
+abbrev type_with : ℕ → Option Ty
+type_with n = Some (record { width = n })
+
+abbrev signed_if : ℕ → ℕ → Bool → ℤ
+signed_if n k b = if b then negsuc (2 ^ n - 1 - k) else pos k
+
 -- a property of the type of n bits
-on-type : (P : Option Ty → Type 0) (n : ℕ) → (0 < n → n < 65536 → P (Some (record { width = n }))) → P None → P (type_of n)
+on-type : (P : Option Ty → Type 0) (n : ℕ) → (0 < n → n < 65536 → P (type_with n)) → P None → P (type_of n)
 on-type P n h q = elim (width-tells n) [
-  | inl t ↦ subst (λ (b : Bool). P (if b then Some (record { width = n }) else None)) (sym t.0) (h t.1 t.2)
-  | inr t ↦ subst (λ (b : Bool). P (if b then Some (record { width = n }) else None)) (sym t.0) q
+  | inl t ↦ subst (λ (b : Bool). P (type_if n b)) (sym t.0) (h t.1 t.2)
+  | inr t ↦ subst (λ (b : Bool). P (type_if n b)) (sym t.0) q
 ]
 
 pub type-fits : (n : ℕ) → FitsOptionalType (type_of n)
@@ -51,7 +60,7 @@ type-fits n = on-type FitsOptionalType n (λ l h. (l, omega (arith, h))) tt
 -- a type that is written is the type of its width
 pub type-some : (t : Ty) (n : ℕ) → FitsType t → t.width ≡ n → type_of n ≡ Some t
 type-some t n f e = elim (width-tells n) [
-  | inl s ↦ ap (λ (b : Bool). if b then Some (record { width = n }) else None) s.0 ∙ ap (λ (k : ℕ). Some (record { width = k })) (sym e)
+  | inl s ↦ ap (type_if n) s.0 ∙ ap type_with (sym e)
   | inr s ↦ absurd (omega (arith, s.1 (omega (arith, e, f.0)), e, f.1))
 ]
 
@@ -97,8 +106,8 @@ top-tells n k = elim (le-tells (2 ^ (n - 1)) k) [
 -- a property of the signed number of a number that is not negative
 pub on-signed : (P : ℤ → Type 0) (n k : ℕ) → (2 ^ (n - 1) ≤ k → k < 2 ^ n → P (negsuc (2 ^ n - 1 - k))) → (has_top_bit n k ≡ false → (k < 2 ^ n → k < 2 ^ (n - 1)) → P (pos k)) → P (signed_number n (pos k))
 on-signed P n k h q = elim (top-tells n k) [
-  | inl t ↦ subst (λ (b : Bool). P (if b then negsuc (2 ^ n - 1 - k) else pos k)) (sym t.0) (h t.1 t.2)
-  | inr t ↦ subst (λ (b : Bool). P (if b then negsuc (2 ^ n - 1 - k) else pos k)) (sym t.0) (q t.0 t.1)
+  | inl t ↦ subst (λ (b : Bool). P (signed_if n k b)) (sym t.0) (h t.1 t.2)
+  | inr t ↦ subst (λ (b : Bool). P (signed_if n k b)) (sym t.0) (q t.0 t.1)
 ]
 
 pub signed-fits : (n : ℕ) (z : ℤ) → FitsWidth n z → FitsWidth n (signed_number n z)
@@ -120,7 +129,7 @@ signed-signed n (pos k) h = on-signed (FitsSigned w128) n k (λ l u. let d = hal
 signed-signed n (negsuc k) h = h
 
 pub signed-again : (n : ℕ) (z : ℤ) → signed_number n (signed_number n z) ≡ signed_number n z
-signed-again n (pos k) = on-signed (λ (z : ℤ). signed_number n z ≡ z) n k (λ _ _. refl) (λ e _. ap (λ (b : Bool). if b then negsuc (2 ^ n - 1 - k) else pos k) e)
+signed-again n (pos k) = on-signed (λ (z : ℤ). signed_number n z ≡ z) n k (λ _ _. refl) (λ e _. ap (signed_if n k) e)
 signed-again n (negsuc k) = refl
 
 -- the same in each form
@@ -147,3 +156,37 @@ index-type-fits Complete t h = (omega arith, omega arith)
 pub index-type-again : (f : Form) (t : Option Ty) → index_type f (index_type f t) ≡ index_type f t
 index-type-again Widths t = refl
 index-type-again Complete t = refl
+
+-- a signed number is below the half
+pub signed-below : (n k : ℕ) (z : ℤ) → FitsWidth n z → signed_number n z ≡ pos k → k < 2 ^ (n - 1)
+signed-below n k (pos j) h e = on-signed (λ (z : ℤ). z ≡ pos k → k < 2 ^ (n - 1)) n j (λ l u q. absurd (cc)) (λ _ g q. let r : j ≡ k = cc in subst (λ (i : ℕ). i < 2 ^ (n - 1)) r (g h)) e
+signed-below n k (negsuc j) h e = absurd (cc)
+
+-- the bits of a number that fits
+positive-bits : (n k : ℕ) → k < 2 ^ n → bits_of n (pos k) ≡ k
+positive-bits n k h = mod-eq_of_lt h
+
+negative-bits : (n k : ℕ) → 0 < n → k < 2 ^ (n - 1) → bits_of n (negsuc k) + k + 1 ≡ 2 ^ n
+negative-bits n k l h =
+    let d : 2 ^ n ≡ 2 * 2 ^ (n - 1) = half-whole n l in
+    let e : k % 2 ^ n ≡ k = mod-eq_of_lt (omega (arith, d, h)) in
+    omega (arith, d, e, h)
+
+-- a number with the bits of a negative one
+turned-negative : (n k j : ℕ) → 0 < n → k < 2 ^ n → j < 2 ^ (n - 1) → bits_of n (pos k) ≡ bits_of n (negsuc j) → signed_number n (pos k) ≡ negsuc j
+turned-negative n k j l u h e =
+    let d : 2 ^ n ≡ 2 * 2 ^ (n - 1) = half-whole n l in
+    let p : bits_of n (pos k) ≡ k = positive-bits n k u in
+    let q : bits_of n (negsuc j) + j + 1 ≡ 2 ^ n = negative-bits n j l h in
+    let s : k + j + 1 ≡ 2 ^ n = omega (arith, e, p, q) in
+    on-signed (λ (z : ℤ). z ≡ negsuc j) n k (λ _ _. ap negsuc (let i : 2 ^ n - 1 - k ≡ j = omega (arith, s) in i)) (λ _ g. absurd (let b : k < 2 ^ (n - 1) = g u in omega (arith, b, s, d, h)))
+
+-- of the numbers with the same bits one is signed
+pub same-signed : (n : ℕ) (x y : ℤ) → 0 < n → FitsWidth n x → FitsWidth n y → bits_of n x ≡ bits_of n y → signed_number n x ≡ signed_number n y
+same-signed n (pos j) (pos k) l h g e = ap (λ (z : ℕ). signed_number n (pos z)) (sym (positive-bits n j h) ∙ e ∙ positive-bits n k g)
+same-signed n (pos j) (negsuc k) l h g e = turned-negative n j k l h g e
+same-signed n (negsuc j) (pos k) l h g e = sym (turned-negative n k j l g h (sym e))
+same-signed n (negsuc j) (negsuc k) l h g e =
+    let p : bits_of n (negsuc j) + j + 1 ≡ 2 ^ n = negative-bits n j l h in
+    let q : bits_of n (negsuc k) + k + 1 ≡ 2 ^ n = negative-bits n k l g in
+    ap negsuc (omega (arith, e, p, q))

@@ -18,7 +18,7 @@ pub trait TypedItem: Item {
         ensures { IfOk result (λ copy. Self.view copy ≡ Self.view self.now) };
 
     /// Writes these widths, of which there is one of each kind for each statement.
-    fn write(&mut self, form: Form, widths: &Widths)
+    fn put_widths(&mut self, form: Form, widths: &Widths)
         requires results { length widths.now.results.items ≡ length (Self.view self.old).statements }
         requires operands { length widths.now.operands.items ≡ length (Self.view self.old).statements }
         ensures { Self.view self.new ≡ written_item form (view_widths widths.now) (Self.view self.old) };
@@ -29,7 +29,7 @@ impl TypedItem for LeftHandSide {
         self.clone()
     }
 
-    fn write(&mut self, form: Form, widths: &Widths) {
+    fn put_widths(&mut self, form: Form, widths: &Widths) {
         write_statements(form, widths, &mut self.statements);
     }
 }
@@ -39,7 +39,7 @@ impl TypedItem for RightHandSide {
         self.clone()
     }
 
-    fn write(&mut self, form: Form, widths: &Widths) {
+    fn put_widths(&mut self, form: Form, widths: &Widths) {
         write_statements(form, widths, &mut self.statements);
         self.result = write_operand(form, widths.root, self.result);
     }
@@ -50,7 +50,7 @@ impl TypedItem for Replacement {
         self.clone()
     }
 
-    fn write(&mut self, form: Form, widths: &Widths) {
+    fn put_widths(&mut self, form: Form, widths: &Widths) {
         match self {
             Replacement::LhsRhs {
                 statements,

@@ -26,7 +26,7 @@ pub fn write_widths<T: TypedItem>(item: &mut T, form: Form) -> Result<Widths, Wi
         Ok(found) => found,
         Err(error) => return Err(error),
     };
-    item.write(form, &found);
+    item.put_widths(form, &found);
     Ok(found)
 }
 
@@ -62,6 +62,6 @@ fn written_copy<T: TypedItem>(item: &T, form: Form) -> Result<T, WidthsError>
         Err(error) => return Err(error),
     };
     let mut copy = item.copied()?;
-    copy.write(form, &found);
+    copy.put_widths(form, &found);
     Ok(copy)
 }
