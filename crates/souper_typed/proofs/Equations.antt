@@ -14,9 +14,9 @@ use Rattle.souper_widths.specs.Table.{each_with, row_operands}
 use Rattle.souper_widths.specs.Limits.{FitsOperandWidth}
 use Rattle.souper_typed.specs.declared.form.Form.{Form}
 use Rattle.souper_typed.specs.Written.{written_operand}
-use Rattle.souper_typed.proofs.Numbers.{constant-holds, constant-held}
+use Rattle.souper_typed.proofs.WrittenNumbers.{constant-holds, constant-held}
 use Rattle.souper_typed.proofs.Lists.{all-map}
-use Rattle.souper_typed.proofs.Operands.{operand-bits, written_operands}
+use Rattle.souper_typed.proofs.WrittenOperands.{operand-bits, written_operands}
 
 -- an operand with its width
 abbrev pub written_pair : Form → WidthMap → Operand × Width → Operand × Width

@@ -10,7 +10,7 @@ use Rattle.souper_graph.specs.Judging.{assigned_name}
 use Rattle.souper_widths.specs.Maps.{WidthMap, result_width, operand_width}
 use Rattle.souper_typed.specs.declared.form.Form.{Form}
 use Rattle.souper_typed.specs.Written.{written_operand, written_rhs, written_statement, has_none, written_with, written_from, written_ending, written_item}
-use Rattle.souper_typed.proofs.Statements.{either, Alike, alike-with, with-fits, with-again, ending-again, first-roots_are, last-roots_are, ending-fits}
+use Rattle.souper_typed.proofs.WrittenStatements.{either, Alike, alike-with, with-fits, with-again, ending-again, first-roots_are, last-roots_are, ending-fits}
 
 -- the statement of position p
 abbrev pub written_at : Form → WidthMap → ℕ → PlainStatement → PlainStatement

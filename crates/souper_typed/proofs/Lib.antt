@@ -1,8 +1,8 @@
-mod Numbers
+mod WrittenNumbers
 mod Lists
-mod Operands
+mod WrittenOperands
 mod Equations
-mod Statements
+mod WrittenStatements
 mod Graphs
 mod Places
 mod Widths

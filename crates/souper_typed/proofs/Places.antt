@@ -26,11 +26,11 @@ use Rattle.souper_widths.specs.Limits.{bits_of, IsRange, Widens, Narrows, HasByt
 use Rattle.souper_typed.specs.declared.form.Form.{Form}
 use Rattle.souper_typed.specs.Numbers.{type_of, written_number}
 use Rattle.souper_typed.specs.Written.{written_operand, written_index, written_instruction, written_rhs, written_attribute, written_statement, has_none, written_with, written_from}
-use Rattle.souper_typed.proofs.Numbers.{type-holds, type-held, number-fits, number-bits}
+use Rattle.souper_typed.proofs.WrittenNumbers.{type-holds, type-held, number-fits, number-bits}
 use Rattle.souper_typed.proofs.Lists.{all-map}
-use Rattle.souper_typed.proofs.Operands.{written_operands, row-all}
+use Rattle.souper_typed.proofs.WrittenOperands.{written_operands, row-all}
 use Rattle.souper_typed.proofs.Equations.{written_pair, row-pairs, pairs-hold, pairs-held, row-first, pairs-bits, FitsFirstPart}
-use Rattle.souper_typed.proofs.Statements.{Alike, row-is, operands-are}
+use Rattle.souper_typed.proofs.WrittenStatements.{Alike, row-is, operands-are}
 use Rattle.souper_typed.proofs.Graphs.{on-written, block-from}
 
 -- the three parts of the equations of a statement
@@ -46,19 +46,19 @@ HoldsPairs m zs = AllByRecursion (Holds m) (flat_map operand_equations zs)
 abbrev pub HoldsStatement : WidthMap → ℕ → PlainStatement → Type 0
 HoldsStatement m p s = AllByRecursion (Holds m) (statement_equations p (Some s))
 
-type-part : (m : WidthMap) (p : ℕ) (s : PlainStatement) → HoldsStatement m p s → HoldsType m p s
+pub type-part : (m : WidthMap) (p : ℕ) (s : PlainStatement) → HoldsStatement m p s → HoldsType m p s
 type-part m p s h = All-first (Holds m) (type_equations (written_type s) (result_of p)) (row_equations p (row_of s) ++ flat_map operand_equations (statement_operands p s)) h
 
 rest-part : (m : WidthMap) (p : ℕ) (s : PlainStatement) → HoldsStatement m p s → AllByRecursion (Holds m) (row_equations p (row_of s) ++ flat_map operand_equations (statement_operands p s))
 rest-part m p s h = All-second (Holds m) (type_equations (written_type s) (result_of p)) (row_equations p (row_of s) ++ flat_map operand_equations (statement_operands p s)) h
 
-row-part : (m : WidthMap) (p : ℕ) (s : PlainStatement) → HoldsStatement m p s → HoldsRow m p (row_of s)
+pub row-part : (m : WidthMap) (p : ℕ) (s : PlainStatement) → HoldsStatement m p s → HoldsRow m p (row_of s)
 row-part m p s h = All-first (Holds m) (row_equations p (row_of s)) (flat_map operand_equations (statement_operands p s)) (rest-part m p s h)
 
-pairs-part : (m : WidthMap) (p : ℕ) (s : PlainStatement) → HoldsStatement m p s → HoldsPairs m (statement_operands p s)
+pub pairs-part : (m : WidthMap) (p : ℕ) (s : PlainStatement) → HoldsStatement m p s → HoldsPairs m (statement_operands p s)
 pairs-part m p s h = All-second (Holds m) (row_equations p (row_of s)) (flat_map operand_equations (statement_operands p s)) (rest-part m p s h)
 
-of-parts : (m : WidthMap) (p : ℕ) (s : PlainStatement) → HoldsType m p s → HoldsRow m p (row_of s) → HoldsPairs m (statement_operands p s) → HoldsStatement m p s
+pub of-parts : (m : WidthMap) (p : ℕ) (s : PlainStatement) → HoldsType m p s → HoldsRow m p (row_of s) → HoldsPairs m (statement_operands p s) → HoldsStatement m p s
 of-parts m p s t r o =
     All-both (Holds m) (type_equations (written_type s) (result_of p)) (row_equations p (row_of s) ++ flat_map operand_equations (statement_operands p s)) t
     (All-both (Holds m) (row_equations p (row_of s)) (flat_map operand_equations (statement_operands p s)) r o)
@@ -96,7 +96,7 @@ rhs-operands_fit (phi p) h = h
 rhs-operands_fit (instruction i) h = h
 rhs-operands_fit x h = tt
 
-operands-fit : (s : PlainStatement) → FitsStatement s → AllByRecursion FitsOperand (operands_in s)
+pub operands-fit : (s : PlainStatement) → FitsStatement s → AllByRecursion FitsOperand (operands_in s)
 operands-fit (assigned a) h = rhs-operands_fit a.value h.value_fits
 operands-fit (condition c) h = (h.0, (h.1, tt))
 operands-fit (block_condition c) h = (h.1, (h.2, tt))

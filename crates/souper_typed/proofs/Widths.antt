@@ -81,7 +81,7 @@ line-attributes f n Infer (replaced i x) = refl
 line-attributes f n Cand (candidate c) = refl
 line-attributes f n l e = refl
 
-line-fits : (l : FlawLocation) (e : Ending) → FitsEnding e → AllByRecursion FitsOperand (line_operands l e)
+pub line-fits : (l : FlawLocation) (e : Ending) → FitsEnding e → AllByRecursion FitsOperand (line_operands l e)
 line-fits Infer (inferred i) h = (tt, tt)
 line-fits Infer (replaced i x) h = (tt, tt)
 line-fits Result (resulting x) h = (h, tt)
@@ -150,7 +150,7 @@ line-keeps f m l e h =
     )
 
 -- the places of a and of the written item
-fits-at : (a : Item) (p : ℕ) → WellFormed a → NeededIn a p → (s : PlainStatement) → slice_get a.statements p ≡ Some s → FitsStatement s
+pub fits-at : (a : Item) (p : ℕ) → WellFormed a → NeededIn a p → (s : PlainStatement) → slice_get a.statements p ≡ Some s → FitsStatement s
 fits-at a p w n s e = (w.closed p s n e).fits
 
 item-shape : (f : Form) (m : WidthMap) (a : Item) → Typed a m → HasShape (written_item f m a)

@@ -47,11 +47,16 @@ fn signed_by(bits: u128, width: u32) -> i128
 pub(crate) fn signed(number: i128, width: u32) -> i128
     ensures { result ≡ signed_number width number }
 {
-    if number < 0 || width == 0 || width >= 128 {
-        number
-    } else {
-        signed_by(number as u128, width)
+    if number < 0 {
+        return number;
     }
+    if width == 0 {
+        return number;
+    }
+    if width >= 128 {
+        return number;
+    }
+    signed_by(number as u128, width)
 }
 
 // The number in this form.

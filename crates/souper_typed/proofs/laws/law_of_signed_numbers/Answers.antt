@@ -1,5 +1,5 @@
 use Rattle.std.proofs.Common.{refl}
-use Rattle.souper_typed.proofs.Numbers.{signed-bits, signed-fits, signed-below, same-signed}
+use Rattle.souper_typed.proofs.WrittenNumbers.{signed-bits, signed-fits, signed-below, same-signed}
 use Rattle.souper_typed.proofs.laws.law_of_signed_numbers.Goals as goal
 
 pub returns-clause-bits : goal.returns-clause-bits

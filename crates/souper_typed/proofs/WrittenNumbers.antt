@@ -5,6 +5,7 @@ use Rattle.std.specs.Int.{w128}
 use Rattle.std.specs.List.{AllByRecursion}
 use Rattle.std.proofs.lemmas.Bool.Decides.{leb_tells}
 use Rattle.std.proofs.Math.Nat.{pow-suc, mod-eq_of_lt}
+use Rattle.std.proofs.Math.Pow.{pow_mono}
 use Rattle.souper_graph.specs.declared.ast.operands.«Type».{«Type» as Ty}
 use Rattle.souper_graph.specs.WellFormed.{FitsType, FitsOptionalType}
 use Rattle.souper_widths.specs.Maps.{WidthMap}
@@ -190,3 +191,15 @@ same-signed n (negsuc j) (negsuc k) l h g e =
     let p : bits_of n (negsuc j) + j + 1 ≡ 2 ^ n = negative-bits n j l h in
     let q : bits_of n (negsuc k) + k + 1 ≡ 2 ^ n = negative-bits n k l g in
     ap negsuc (omega (arith, e, p, q))
+
+-- numbers that stay: at no width, and at one that has the bits of each number
+pub none-stays : (n : ℕ) (z : ℤ) → n ≡ 0 → signed_number n z ≡ z
+none-stays n (pos k) e = on-signed (λ (z : ℤ). z ≡ pos k) n k (λ l u. absurd (beside l (subst (λ (i : ℕ). k < 2 ^ i) e u))) (λ _ _. refl)
+  where
+    beside : 2 ^ (n - 1) ≤ k → k < 2 ^ 0 → ⊥
+    beside l u = let o : 2 ^ (n - 1) ≤ k = l in let p : 2 ^ (0 - 1) ≤ k = subst (λ (i : ℕ). 2 ^ (i - 1) ≤ k) e o in omega (arith, p, u)
+none-stays n (negsuc k) e = refl
+
+pub wide-stays : (n : ℕ) (z : ℤ) → 128 ≤ n → FitsSigned w128 z → signed_number n z ≡ z
+wide-stays n (pos k) l h = on-signed (λ (z : ℤ). z ≡ pos k) n k (λ o u. absurd (let m : 2 ^ 127 ≤ 2 ^ (n - 1) = pow_mono (omega (arith, l)) in omega (arith, m, o, h))) (λ _ _. refl)
+wide-stays n (negsuc k) l h = refl

@@ -14,9 +14,9 @@ use Rattle.souper_widths.specs.Table.{rhs_row, row_of, instruction_row, operands
 use Rattle.souper_typed.specs.declared.form.Form.{Form}
 use Rattle.souper_typed.specs.Numbers.{type_of, written_number}
 use Rattle.souper_typed.specs.Written.{written_operand, written_rhs, written_attribute, written_statement, has_none, written_with, written_ending}
-use Rattle.souper_typed.proofs.Numbers.{type-fits, number-signed, number-again}
+use Rattle.souper_typed.proofs.WrittenNumbers.{type-fits, number-signed, number-again}
 use Rattle.souper_typed.proofs.Lists.{map-again, all-map}
-use Rattle.souper_typed.proofs.Operands.{operand-uses, operand-fits, operand-again, written_operands, instruction-operands, instruction-row, instruction-again, each-uses, row-uses, row-fits}
+use Rattle.souper_typed.proofs.WrittenOperands.{operand-uses, operand-fits, operand-again, written_operands, instruction-operands, instruction-row, instruction-again, each-uses, row-uses, row-fits}
 
 rhs-row_is : (f : Form) (v : ℕ) (x : PlainRhs) → rhs_row (written_rhs f v x) ≡ rhs_row x
 rhs-row_is f v (instruction i) = instruction-row f v i

@@ -18,7 +18,7 @@ use Rattle.souper_widths.specs.Limits.{FitsBits}
 use Rattle.souper_typed.specs.declared.form.Form.{Form}
 use Rattle.souper_typed.specs.Numbers.{type_of, written_number, index_type}
 use Rattle.souper_typed.specs.Written.{written_operand, written_index, written_instruction}
-use Rattle.souper_typed.proofs.Numbers.{type-fits, number-fits, number-signed, number-again, index-type-fits, index-type-again}
+use Rattle.souper_typed.proofs.WrittenNumbers.{type-fits, number-fits, number-signed, number-again, index-type-fits, index-type-again}
 use Rattle.souper_typed.proofs.Lists.{map-again, all-map}
 
 pub operand-uses : (f : Form) (n : ℕ) (x : Operand) → uses_of_operand (written_operand f n x) ≡ uses_of_operand x
