@@ -7,3 +7,5 @@ mod Graphs
 mod Places
 mod Widths
 mod Loops
+mod Raised
+mod Types

@@ -1,6 +1,6 @@
 -- The places of a written item: their shape, equations and limits.
 use Rattle.std.proofs.Common.{◌≡◌, ◌≢◌, ℕ, zero, suc, ◌+◌, ◌<◌, ◌≤◌, ◌⊎◌, inl, inr, List, [], ◌∷◌, ◌++◌, Bool, true, false, map, length, Option, Some, None, refl, sym, ap, subst, ◌∙◌, arith}
-use Rattle.std.specs.Prelude.{ℤ, pos, negsuc, flat_map, if◌then◌else◌, nat_eq, ◌&&◌, option_map}
+use Rattle.std.specs.Prelude.{ℤ, pos, negsuc, flat_map, if◌then◌else◌, nat_eq, ◌&&◌, option_map, is_some, IsNone}
 use Rattle.std.specs.List.{AllByRecursion}
 use Rattle.std.proofs.lemmas.List.{length-map}
 use Rattle.std.proofs.lemmas.Bool.Decides.{eqb_tells}
@@ -188,8 +188,12 @@ rhs-stays : (f : Form) (v : ℕ) (x : PlainRhs) → IsBlockRhs x → written_rhs
 rhs-stays f v (block b) h = refl
 rhs-stays f v x h = absurd h
 
+none-is : (t : Option Ty) → IsNone t → t ≡ None
+none-is None n = refl
+none-is (Some t) n = absurd (cc)
+
 type-none : (x : PlainRhs) (t : Option Ty) → IsBlockRhs x → HasNoType (rhs_row x) t → t ≡ None
-type-none (block b) t h n = n
+type-none (block b) t h n = none-is t n
 type-none x t h n = absurd h
 
 block-no_input : (x : PlainRhs) → IsBlockRhs x → IsInput x → ⊥
@@ -221,14 +225,15 @@ statement-stays f m p ss (block_condition c) shape h n = absurd (none-some m p n
 pub none-tells : (w v : ℕ) → ((has_none w v ≡ true) × (w ≡ 0) × (v ≡ 0)) ⊎ (has_none w v ≡ false)
 none-tells w v = elim (eqb_tells w 0) [
   | inl s ↦ elim (eqb_tells v 0) [
-      | inl t ↦ inl (both (nat_eq w 0) (nat_eq v 0) true s.0 t.0, s.1, t.1)
-      | inr t ↦ inr (both (nat_eq w 0) (nat_eq v 0) false s.0 t.0)
-    ]
+    | inl t ↦ inl (both (nat_eq w 0) (nat_eq v 0) true s.0 t.0, s.1, t.1)
+    | inr t ↦ inr (both (nat_eq w 0) (nat_eq v 0) false s.0 t.0)
+  ]
   | inr s ↦ inr (first (nat_eq w 0) (nat_eq v 0) s.0)
 ]
   where
     both : (x y c : Bool) → x ≡ true → y ≡ c → (x && y) ≡ c
     both x y c p q = rw p q
+
     first : (x y : Bool) → x ≡ false → (x && y) ≡ false
     first x y p = rw p refl
 
@@ -246,7 +251,7 @@ statement-typed f m p ss s shape h = elim (none-tells (result_width m p) (operan
 pair-from : (f : Form) (m : WidthMap) (ss : List PlainStatement) (i : ℕ) → IsPairOperand (written_from f m 0 ss) (Value i) → IsPairOperand ss (Value i)
 pair-from f m ss i = on-written (λ o q. IsPair q → IsPair o) (λ h. h) (λ s t a h. subst IsPairRow a.row h) f m ss i
 
-pair-to : (f : Form) (m : WidthMap) (ss : List PlainStatement) (i : ℕ) → IsPairOperand ss (Value i) → IsPairOperand (written_from f m 0 ss) (Value i)
+pub pair-to : (f : Form) (m : WidthMap) (ss : List PlainStatement) (i : ℕ) → IsPairOperand ss (Value i) → IsPairOperand (written_from f m 0 ss) (Value i)
 pair-to f m ss i = on-written (λ o q. IsPair o → IsPair q) (λ h. h) (λ s t a h. subst IsPairRow (sym a.row) h) f m ss i
 
 no-block : (f : Form) (m : WidthMap) (ss : List PlainStatement) (n : ℕ) (x : Operand) → ¬ IsBlockOperand ss x → ¬ IsBlockOperand (written_from f m 0 ss) (written_operand f n x)
@@ -315,7 +320,7 @@ typed-shaped f m ss p s q h =
     shaped-by (written_from f m 0 ss) (typed_at f m p s) (row_of s) (written_operands f (row_of s) v (operands_in s)) q (row-is f w v s) (operands-are f w v s) (operands-shaped f m ss (row_of s) v (operands_in s) q h)
 
 no-type : (r : Row) (w : ℕ) → (r ≡ Block → w ≡ 0) → HasNoType r (type_of w)
-no-type Block w h = ap type_of (h refl)
+no-type Block w h = ap (λ (z : ℕ). is_some (type_of z)) (h refl)
 no-type r w h = tt
 
 block-width : (m : WidthMap) (p : ℕ) (r : Row) → HoldsRow m p r → r ≡ Block → result_width m p ≡ 0

@@ -30,7 +30,7 @@ optional-typed : (f : Form) (m : WidthMap) (p : ℕ) (ss : List PlainStatement) 
 optional-typed f m p ss None shape h = refl
 optional-typed f m p ss (Some s) shape h = ap Some (statement-typed f m p ss s shape h)
 
-stands : (f : Form) (m : WidthMap) (a : Item) (p : ℕ) → Typed a m → NeededIn a p → slice_get (written_from f m 0 a.statements) p ≡ option_map (typed_at f m p) (slice_get a.statements p)
+pub stands : (f : Form) (m : WidthMap) (a : Item) (p : ℕ) → Typed a m → NeededIn a p → slice_get (written_from f m 0 a.statements) p ≡ option_map (typed_at f m p) (slice_get a.statements p)
 stands f m a p t n = at-is f m a.statements p ∙ optional-typed f m p a.statements (slice_get a.statements p) (t.shape (Statement p) n) (t.has.holds (Statement p) n)
 
 pub needed-typed : (f : Form) (m : WidthMap) (a : Item) (p : ℕ) (s : PlainStatement) → Typed a m → NeededIn a p → slice_get a.statements p ≡ Some s → slice_get (written_from f m 0 a.statements) p ≡ Some (typed_at f m p s)
@@ -89,7 +89,7 @@ line-fits Result (replaced i x) h = (h.1, tt)
 line-fits Cand (candidate c) h = (h.0, (h.1, tt))
 line-fits l e h = tt
 
-line-pairs : (f : Form) (m : WidthMap) (l : FlawLocation) (e : Ending) → each_with of_root (line_operands l (written_ending f m.root e)) ≡ map (written_pair f m) (each_with of_root (line_operands l e))
+pub line-pairs : (f : Form) (m : WidthMap) (l : FlawLocation) (e : Ending) → each_with of_root (line_operands l (written_ending f m.root e)) ≡ map (written_pair f m) (each_with of_root (line_operands l e))
 line-pairs f m l e = ap (each_with of_root) (line-operands f m.root l e) ∙ each-pair f m of_root (line_operands l e)
 
 map-none : (h : Operand → Operand) (xs : List Operand) → map h xs ≡ [] → xs ≡ []
@@ -99,7 +99,7 @@ map-none h (x ∷ xs) e = absurd (cc)
 line-to : (f : Form) (n : ℕ) (l : FlawLocation) (e : Ending) → line_operands l e ≢ [] → line_operands l (written_ending f n e) ≢ []
 line-to f n l e h k = h (map-none (written_operand f n) (line_operands l e) (sym (line-operands f n l e) ∙ k))
 
-line-from : (f : Form) (n : ℕ) (l : FlawLocation) (e : Ending) → line_operands l (written_ending f n e) ≢ [] → line_operands l e ≢ []
+pub line-from : (f : Form) (n : ℕ) (l : FlawLocation) (e : Ending) → line_operands l (written_ending f n e) ≢ [] → line_operands l e ≢ []
 line-from f n l e h k = h (line-operands f n l e ∙ ap (map (written_operand f n)) k)
 
 abbrev LineHolds : WidthMap → FlawLocation → Ending → Type 0

@@ -33,9 +33,9 @@ second-false x y p q = rw (p, q) refl
 width-tells : (n : ℕ) → ((is_width n ≡ true) × (0 < n) × (n < 65536)) ⊎ ((is_width n ≡ false) × (0 < n → 65536 ≤ n))
 width-tells n = elim (lt-tells 0 n) [
   | inl s ↦ elim (lt-tells n 65536) [
-      | inl t ↦ inl (both-true (nat_lt 0 n) (nat_lt n 65536) s.0 t.0, s.1, t.1)
-      | inr t ↦ inr (second-false (nat_lt 0 n) (nat_lt n 65536) s.0 t.0, λ _. t.1)
-    ]
+    | inl t ↦ inl (both-true (nat_lt 0 n) (nat_lt n 65536) s.0 t.0, s.1, t.1)
+    | inr t ↦ inr (second-false (nat_lt 0 n) (nat_lt n 65536) s.0 t.0, λ _. t.1)
+  ]
   | inr s ↦ inr (first-false (nat_lt 0 n) (nat_lt n 65536) s.0, λ h. absurd (omega (arith, h, s.1)))
 ]
 
@@ -98,9 +98,9 @@ half-whole (suc j) h =
 pub top-tells : (n k : ℕ) → ((has_top_bit n k ≡ true) × (2 ^ (n - 1) ≤ k) × (k < 2 ^ n)) ⊎ ((has_top_bit n k ≡ false) × (k < 2 ^ n → k < 2 ^ (n - 1)))
 top-tells n k = elim (le-tells (2 ^ (n - 1)) k) [
   | inl s ↦ elim (lt-tells k (2 ^ n)) [
-      | inl t ↦ inl (both-true (nat_le (2 ^ (n - 1)) k) (nat_lt k (2 ^ n)) s.0 t.0, s.1, t.1)
-      | inr t ↦ inr (second-false (nat_le (2 ^ (n - 1)) k) (nat_lt k (2 ^ n)) s.0 t.0, λ h. absurd (omega (arith, h, t.1)))
-    ]
+    | inl t ↦ inl (both-true (nat_le (2 ^ (n - 1)) k) (nat_lt k (2 ^ n)) s.0 t.0, s.1, t.1)
+    | inr t ↦ inr (second-false (nat_le (2 ^ (n - 1)) k) (nat_lt k (2 ^ n)) s.0 t.0, λ h. absurd (omega (arith, h, t.1)))
+  ]
   | inr s ↦ inr (first-false (nat_le (2 ^ (n - 1)) k) (nat_lt k (2 ^ n)) s.0, λ _. s.1)
 ]
 
@@ -201,5 +201,11 @@ none-stays n (pos k) e = on-signed (λ (z : ℤ). z ≡ pos k) n k (λ l u. absu
 none-stays n (negsuc k) e = refl
 
 pub wide-stays : (n : ℕ) (z : ℤ) → 128 ≤ n → FitsSigned w128 z → signed_number n z ≡ z
-wide-stays n (pos k) l h = on-signed (λ (z : ℤ). z ≡ pos k) n k (λ o u. absurd (let m : 2 ^ 127 ≤ 2 ^ (n - 1) = pow_mono (omega (arith, l)) in omega (arith, m, o, h))) (λ _ _. refl)
+wide-stays n (pos k) l h = on-signed (λ (z : ℤ). z ≡ pos k) n k (λ o u. absurd (beside o)) (λ _ _. refl)
+  where
+    beside : 2 ^ (n - 1) ≤ k → ⊥
+    beside o =
+        let q : 127 ≤ n - 1 = omega (arith, l) in
+        let m : 2 ^ 127 ≤ 2 ^ (n - 1) = pow_mono q in
+        omega (arith, m, o, h)
 wide-stays n (negsuc k) l h = refl

@@ -1,5 +1,5 @@
 -- Operands with their types: what stays, and what holds of them.
-use Rattle.std.proofs.Common.{◌≡◌, ℕ, zero, suc, List, [], ◌∷◌, ◌++◌, map, refl, sym, ap, subst, ◌∙◌}
+use Rattle.std.proofs.Common.{◌≡◌, ◌≢◌, ℕ, zero, suc, List, [], ◌∷◌, ◌++◌, map, refl, sym, ap, subst, ◌∙◌}
 use Rattle.std.specs.Prelude.{ℤ, pos, negsuc, Option}
 use Rattle.std.specs.List.{AllByRecursion}
 use Rattle.souper_graph.specs.declared.ast.operands.«Type».{«Type» as Ty}
@@ -71,6 +71,12 @@ pub instruction-operands : (f : Form) (v : ℕ) (i : Instruction) → operands_o
 instruction-operands f v (select_word a b c) = refl
 instruction-operands f v (ExtractValue a b) = part-operands f v a b
 instruction-operands f v i = refl
+
+-- an instruction that has no operand of its own width
+pub other-instruction : (f : Form) (v : ℕ) (i : Instruction) → ((a b c : Operand) → i ≢ select_word a b c) → ((a b : Operand) → i ≢ ExtractValue a b) → written_instruction f v i ≡ instruction_map (written_operand f v) i
+other-instruction f v (select_word a b c) s e = absurd (s a b c refl)
+other-instruction f v (ExtractValue a b) s e = absurd (e a b refl)
+other-instruction f v i s e = refl
 
 index-row : (f : Form) (x : Operand) → part_at (written_index f x) ≡ part_at x
 index-row f (Value i) = refl

@@ -14,9 +14,10 @@ use souper_widths::Widths;
 fn write_attribute(form: Form, width: u32, attribute: &mut Attribute)
     ensures { view_attribute attribute.new ≡ written_attribute form width (view_attribute attribute.old) }
 {
-    if let Attribute::Range(low, high) = attribute {
-        *low = write_number(form, width, *low);
-        *high = write_number(form, width, *high);
+    if let Attribute::Range(low, high) = *attribute {
+        let first = write_number(form, width, low);
+        let end = write_number(form, width, high);
+        *attribute = Attribute::Range(first, end);
     }
 }
 
