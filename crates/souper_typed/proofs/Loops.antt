@@ -1,11 +1,14 @@
 -- Lists whose first elements are written already.
 use Rattle.std.proofs.Common.{◌≡◌, ℕ, zero, suc, ◌+◌, ◌<◌, ◌≤◌, ◌++◌, List, [], ◌∷◌, length, map, take, drop, get_or, Option, Some, None, refl, sym, ap, ◌∙◌, arith, add-one}
-use Rattle.std.specs.Prelude.{slice_set, option_map, slice_get}
-use Rattle.std.proofs.Math.ListN.{set}
+use Rattle.std.specs.Prelude.{slice_set, option_map, slice_get, slice_index}
+use Rattle.std.proofs.Math.ListN.{set, get_or-map}
+use Rattle.std.proofs.lemmas.List.{map-set as list-set}
 use Rattle.std.proofs.lemmas.Option.{slice_get-map}
+use Rattle.souper_graph.specs.declared.ast.attributes.Attribute.{Attribute}
 use Rattle.souper_graph.specs.declared.ast.statements.Statement.{Statement}
-use Rattle.souper_graph.specs.Values.{PlainStatement}
-use Rattle.souper_graph.specs.View.{view_statement}
+use Rattle.souper_graph.specs.Values.{PlainAttribute, PlainStatement}
+use Rattle.souper_graph.specs.View.{view_attribute, view_statement}
+use Rattle.souper_graph.proofs.Replacing.{mapped-next}
 use Rattle.souper_widths.specs.Maps.{WidthMap}
 use Rattle.souper_typed.specs.declared.form.Form.{Form}
 use Rattle.souper_typed.specs.Written.{written_from}
@@ -72,3 +75,15 @@ statement-there f m xs ss i so l none =
     missing f m k [] i l e = absurd (omega arith)
     missing f m k (x ∷ xs) zero l e = absurd (cc)
     missing f m k (x ∷ xs) (suc i) l e = missing f m (suc k) xs i (omega arith) e
+
+-- one more attribute is written
+pub attribute-next : (h : PlainAttribute → PlainAttribute) (xs : List PlainAttribute) (ys : List Attribute) (i : ℕ) (d new : Attribute) → map view_attribute ys ≡ map h (take i xs) ++ drop i xs → i < length xs
+    → view_attribute new ≡ h (view_attribute (get_or ys i d)) → map view_attribute (set ys i new) ≡ map h (take (i + 1) xs) ++ drop (i + 1) xs
+attribute-next h xs ys i d new so l is =
+    list-set view_attribute ys i new ∙ mapped-next h xs (map view_attribute ys) i (view_attribute d) (view_attribute new) so l (is ∙ ap h (sym (get_or-map view_attribute ys i d)))
+
+-- an index within the list needs no default
+pub within-index : (xs : List ℕ) (i d : ℕ) → i < length xs → get_or xs i d ≡ slice_index xs i
+within-index [] i d h = absurd (omega arith)
+within-index (x ∷ xs) zero d h = refl
+within-index (x ∷ xs) (suc i) d h = within-index xs i d (omega arith)

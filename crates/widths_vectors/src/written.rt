@@ -166,21 +166,23 @@ result 5:i3
 result -3:i3
 ";
 
-// The copy and the item itself are written alike, and the text of what is written is stable.
+fn judge_text<T: Item>(rt: &impl Abort, item: &T, want: &str) {
+    let text = item.to_text().expect(rt, want);
+    let lines = text.strip_suffix("\n").expect(rt, want);
+    assert_eq!(rt; lines, want);
+}
+
+// The copy and the item itself are written alike.
 fn judge_form<T: TypedItem + Drop>(rt: &impl Abort, items: &mut [T], typed: &str, completed: &str) {
     let item = items.first_mut().expect(rt, "an item");
     let copy = with_widths(item).expect(rt, typed);
-    let text = copy.to_text().expect(rt, typed);
-    assert_eq!(rt; text.as_str(), typed);
+    judge_text(rt, &copy, typed);
     let copy = complete(item).expect(rt, typed);
-    let text = copy.to_text().expect(rt, typed);
-    assert_eq!(rt; text.as_str(), completed);
+    judge_text(rt, &copy, completed);
     write_widths(item, Form::Widths).expect(rt, typed);
-    let text = item.to_text().expect(rt, typed);
-    assert_eq!(rt; text.as_str(), typed);
+    judge_text(rt, item, typed);
     write_widths(item, Form::Complete).expect(rt, typed);
-    let text = item.to_text().expect(rt, typed);
-    assert_eq!(rt; text.as_str(), completed);
+    judge_text(rt, item, completed);
 }
 
 fn judge(rt: &impl Abort, alloc: Global, kind: &str, source: &str, typed: &str, completed: &str) {
@@ -220,6 +222,5 @@ fn item_without_widths_stays(rt: HostRuntime) {
     let mut items = parse_left_hand_sides_str(alloc, source, None).expect(&rt, source);
     let item = items.first_mut().expect(&rt, source);
     assert!(&rt; write_widths(item, Form::Complete).is_err());
-    let text = item.to_text().expect(&rt, source);
-    assert_eq!(&rt; text.as_str(), source);
+    judge_text(&rt, item, source);
 }

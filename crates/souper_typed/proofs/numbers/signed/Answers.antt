@@ -5,4 +5,4 @@ use Rattle.souper_typed.proofs.WrittenNumbers.{wide-stays}
 use Rattle.souper_typed.proofs.numbers.signed.Goals as goal
 
 pub returns-then-width-ge128 : goal.returns-then-width-ge128
-returns-then-width-ge128 c = to_z-of_z w128 c.args.number c.ranges.number ∙ sym (wide-stays c.args.width c.args.number c.if-width-ge128.true c.ranges.number.sfits)
+returns-then-width-ge128 c = to_z-of_z w128 c.args.number c.ranges.number ∙ sym (wide-stays c.args.width c.args.number c.if-width-ge128.true c.ranges.number)
