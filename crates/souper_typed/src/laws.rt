@@ -11,7 +11,10 @@ ghost use Rattle.souper_widths.specs.Places.{IsPlace, operands_with_widths};
 ghost use Rattle.souper_widths.specs.Shape.{IsPair};
 ghost use Rattle.souper_widths.specs.Limits.{FitsWidth, bits_of};
 ghost use Rattle.souper_widths.specs.Typed.{Typed};
+ghost use Rattle.souper_widths.specs.Examples.{doubled, doubled_widths, overflow, overflow_widths};
 ghost use Rattle.souper_typed.specs.declared.form.Form.{Form};
+ghost use Rattle.souper_typed.specs.declared.form.Form.TheVariants.{Widths, Complete};
+ghost use Rattle.souper_typed.specs.Examples.{doubled_typed, overflow_complete, unsigned_sum, sum_widths, unsigned_sum_typed, signed_sum};
 ghost use Rattle.souper_typed.specs.Numbers.{signed_number};
 ghost use Rattle.souper_typed.specs.Types.{type_with, HasOwnType};
 ghost use Rattle.souper_typed.specs.Written.{written_item, IsWritten};
@@ -27,6 +30,15 @@ pub fn law_of_written_items()
 pub fn law_of_written_types()
     ensures values { (f : Form) (m : WidthMap) (a b : Item) (p : ℕ) (v : PlainAssignment) → IsWritten f m a b → NeededIn b p → slice_get b.statements p ≡ Some (assigned v) → 0 < result_width m p → (v.ty ≡ type_with (result_width m p)) ⊎ (IsPair (slice_get b.statements p) × (result_width m p ≡ 65536)) }
     ensures constants { (f : Form) (m : WidthMap) (a b : Item) (l : FlawLocation) → IsWritten f m a b → IsPlace b l → AllByRecursion (HasOwnType m) (operands_with_widths b l) }
+{}
+
+/// Items with their widths written: types alone, an index, and a number that is signed.
+pub fn law_of_written_examples()
+    ensures typed { written_item Widths doubled_widths doubled ≡ doubled_typed }
+    ensures complete { written_item Complete overflow_widths overflow ≡ overflow_complete }
+    ensures unsigned { written_item Widths sum_widths unsigned_sum ≡ unsigned_sum_typed }
+    ensures signed { written_item Complete sum_widths unsigned_sum ≡ signed_sum }
+    ensures stays { written_item Complete sum_widths signed_sum ≡ signed_sum }
 {}
 
 /// Of the numbers with the same bits, one is signed.
