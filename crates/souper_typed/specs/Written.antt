@@ -75,7 +75,7 @@ written_from f m k (s ∷ ss) = written_with f (result_width m k) (operand_width
 abbrev pub written_item : Form → WidthMap → Item → Item
 written_item f m a = record { statements = written_from f m 0 a.statements; ending = written_ending f m.root a.ending }
 
--- b is the typed item a with the widths m written. The last four say what that is and what it keeps.
+-- b is the typed item a with the widths m written. The fields from `needed` on say what that changes and keeps.
 pub record IsWritten (f : Form) (m : WidthMap) (a b : Item) : Type 0 where
   pub was_well_formed : WellFormed a
   pub was_typed : Typed a m

@@ -50,22 +50,22 @@ infer %w
 === lhs parts of a pair
 %x:i8 = var
 %p = uadd.with.overflow %x, 1
-%n = extractvalue %p, 0
 %o = extractvalue %p, 1:i64
+%n = extractvalue %p, 0
 %s = select %o, %n, 128
 infer %s
 ---
 %x:i8 = var
 %p:i9 = uadd.with.overflow %x, 1:i8
-%n:i8 = extractvalue %p, 0
 %o:i1 = extractvalue %p, 1:i64
+%n:i8 = extractvalue %p, 0
 %s:i8 = select %o, %n, 128:i8
 infer %s
 ---
 %x:i8 = var
 %p:i9 = uadd.with.overflow %x, 1:i8
-%n:i8 = extractvalue %p, 0:i32
 %o:i1 = extractvalue %p, 1:i32
+%n:i8 = extractvalue %p, 0:i32
 %s:i8 = select %o, %n, -128:i8
 infer %s
 
@@ -166,9 +166,10 @@ result 5:i3
 result -3:i3
 ";
 
+// The text of a right-hand side has no newline at its end.
 fn judge_text<T: Item>(rt: &impl Abort, item: &T, want: &str) {
     let text = item.to_text().expect(rt, want);
-    let lines = text.strip_suffix("\n").expect(rt, want);
+    let lines = text.strip_suffix("\n").unwrap_or(text.as_str());
     assert_eq!(rt; lines, want);
 }
 
