@@ -1,0 +1,11 @@
+mod WrittenNumbers
+mod Lists
+mod WrittenOperands
+mod Equations
+mod WrittenStatements
+mod Graphs
+mod Places
+mod Widths
+mod Loops
+mod Raised
+mod Types
