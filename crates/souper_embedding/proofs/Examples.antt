@@ -1,5 +1,5 @@
 -- The worked examples: which left-hand sides a replacement answers.
-use Rattle.std.proofs.Common.{◌≡◌, ℕ, zero, suc, ◌+◌, ◌<◌, ◌≤◌, ◌⊎◌, inl, inr, length, true, false, List, [], ◌∷◌, codes, Bool, Some, None, refl, sym, ap, ◌∙◌, subst, arith}
+use Rattle.std.proofs.Common.{◌≡◌, ℕ, zero, suc, ◌+◌, ◌<◌, inl, inr, length, true, false, List, [], ◌∷◌, codes, Bool, Some, refl, sym, ap, ◌∙◌, subst, arith}
 use Rattle.std.specs.Prelude.{IsTrue, slice_get, pos}
 use Rattle.std.proofs.lemmas.Option.{same_Some}
 use Rattle.souper_graph.specs.declared.ast.operands.Operand.{Operand}
@@ -8,10 +8,9 @@ use Rattle.souper_graph.specs.declared.ast.operands.Constant.{Constant as Consta
 use Rattle.souper_graph.specs.declared.ast.statements.Pc.{Pc}
 use Rattle.souper_graph.specs.declared.ast.statements.BlockPc.{BlockPc}
 use Rattle.souper_graph.specs.Values.{PlainAttribute, negative, non_zero, has_external_uses, var, PlainRootAttribute, demanded_bits, PlainAssignment, PlainStatement, assigned, condition, block_condition, PlainInfer, inferred, replaced, Item}
-use Rattle.souper_graph.specs.Uses.{Has, is_condition, Needed, walked, used, used_at, NeededIn, walks_of}
+use Rattle.souper_graph.specs.Uses.{Has, is_condition, Needed, walked, used, used_at}
 use Rattle.souper_graph.specs.Sameness.{carried}
-use Rattle.souper_graph.specs.LeftSides.{with_infer}
-use Rattle.souper_embedding.specs.Embedding.{HasFacts, StandsFor, WantsWithin, RootNeeds, EmbedsLeft, Embeds}
+use Rattle.souper_embedding.specs.Embedding.{HasFacts, StandsFor, WantsWithin, EmbedsLeft, Embeds}
 use Rattle.souper_embedding.specs.Examples.{byte, holds, fails, number, stored, query, turned, joined_stored, joined_query, apart_stored, apart_query, first_map, second_map}
 
 -- the first n of these statements, of which the first is at position k, stand for others

@@ -1,9 +1,9 @@
 -- A map that takes no two positions to one has an inverse.
-use Rattle.std.proofs.Common.{◌≡◌, ℕ, zero, suc, ◌+◌, ◌<◌, ◌≤◌, inl, inr, length, List, [], ◌∷◌, Option, Some, None, Bool, true, false, refl, sym, ap, ◌∙◌, subst, arith}
-use Rattle.std.specs.Prelude.{slice_get, if◌then◌else◌, nat_eq}
+use Rattle.std.proofs.Common.{◌≡◌, ℕ, zero, suc, ◌+◌, List, [], ◌∷◌, Option, Some, None, Bool, true, false, refl, sym, ap, ◌∙◌, arith}
+use Rattle.std.specs.Prelude.{if◌then◌else◌, nat_eq}
 use Rattle.std.proofs.lemmas.Option.{same_Some}
 use Rattle.std.proofs.lemmas.Bool.Decides.{Decides-eqb}
-use Rattle.souper_embedding.specs.Maps.{GoesTo, Follows, IsOneToOne}
+use Rattle.souper_embedding.specs.Maps.{GoesTo, IsOneToOne}
 
 -- the first position that goes to q, if the first of these has position k
 abbrev pub inverse_from : ℕ → List (Option ℕ) → ℕ → ℕ

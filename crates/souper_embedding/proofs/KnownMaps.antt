@@ -1,11 +1,11 @@
 -- Maps that are known at some positions: one more, and one after another.
-use Rattle.std.proofs.Common.{◌≡◌, ◌≢◌, ℕ, zero, suc, ◌+◌, ◌<◌, ◌≤◌, ◌++◌, ◌⊎◌, inl, inr, length, map, List, [], ◌∷◌, Option, Some, None, true, false, Bool, refl, sym, ap, ◌∙◌, subst, arith}
+use Rattle.std.proofs.Common.{◌≡◌, ℕ, zero, suc, ◌+◌, ◌<◌, ◌++◌, ◌⊎◌, inl, inr, length, List, [], ◌∷◌, Option, Some, None, refl, sym, ap, ◌∙◌, subst, arith}
 use Rattle.std.specs.Prelude.{slice_get, slice_set}
 use Rattle.std.proofs.lemmas.Option.{same_Some}
 use Rattle.std.proofs.lemmas.Bool.{cases_order}
 use Rattle.souper_graph.specs.Uses.{Has}
 use Rattle.souper_graph.proofs.Lists.{Has-left, Has-right, Has-cases}
-use Rattle.souper_embedding.specs.Maps.{GoesTo, Follows, Binds, AreBelow}
+use Rattle.souper_embedding.specs.Maps.{GoesTo, Follows, Binds}
 
 pub get-same : {X : Type 0} (xs : List X) (p : ℕ) (v : X) → p < length xs → slice_get (slice_set xs p v) p ≡ Some v
 get-same [] p v l = absurd (omega arith)

@@ -1,14 +1,14 @@
 -- Two roots have one key if and only if what they need is the same graph up to names and facts.
-use Rattle.std.proofs.Common.{◌≡◌, ℕ, zero, suc, ◌+◌, ◌<◌, ◌≤◌, ◌++◌, ◌⊎◌, inl, inr, length, map, List, [], ◌∷◌, Option, Some, None, Bool, true, false, refl, sym, ap, ◌∙◌, subst, arith}
+use Rattle.std.proofs.Common.{◌≡◌, ℕ, zero, suc, ◌+◌, ◌++◌, inl, inr, map, List, [], ◌∷◌, Option, Some, None, refl, sym, ap, ◌∙◌, subst}
 use Rattle.std.specs.Prelude.{slice_get}
 use Rattle.std.specs.Option.{option_map}
-use Rattle.std.proofs.lemmas.Option.{same_Some, slice_get-map}
-use Rattle.souper_graph.specs.Values.{PlainRhs, PlainAssignment, PlainStatement, assigned, condition, block_condition, PlainInfer, Ending, inferred, Item}
-use Rattle.souper_graph.specs.Uses.{Has, Use, position_of, uses_of_rhs, uses_of_optional, used_at, conditions_from, Needed, walked, used, NeededIn}
-use Rattle.souper_graph.specs.Sameness.{SameGraph, carried, carried_rhs, carried_ending}
+use Rattle.std.proofs.lemmas.Option.{same_Some}
+use Rattle.souper_graph.specs.Values.{PlainAssignment, PlainStatement, assigned, condition, block_condition, PlainInfer, inferred, Item}
+use Rattle.souper_graph.specs.Uses.{Has, position_of, uses_of_rhs, uses_of_optional, used_at, conditions_from, Needed, walked, used, NeededIn}
+use Rattle.souper_graph.specs.Sameness.{carried, carried_rhs}
 use Rattle.souper_graph.specs.Renaming.{with_name, nameless, SameUpToNames}
 use Rattle.souper_graph.proofs.Lists.{Has-map, Has-mapped, Has-cases, Has-left}
-use Rattle.souper_graph.proofs.Sameness.Carrying.{uses-carried, positions-carried, carried_use}
+use Rattle.souper_graph.proofs.Sameness.Carrying.{uses-carried, positions-carried}
 use Rattle.souper_graph.specs.WellFormed.{WellFormed}
 use Rattle.souper_graph.proofs.Order.Needed.{needed_more}
 use Rattle.souper_embedding.specs.Embedding.{EmbedsLeft}

@@ -1,21 +1,20 @@
 -- What a map that was reached says of the left-hand side, and which maps are reached.
-use Rattle.std.proofs.Common.{◌≡◌, ℕ, zero, suc, ◌+◌, ◌<◌, ◌≤◌, ◌++◌, ◌⊎◌, inl, inr, length, map, take, List, [], ◌∷◌, Option, Some, None, Bool, true, false, refl, sym, ap, ◌∙◌, subst, arith}
+use Rattle.std.proofs.Common.{◌≡◌, ℕ, zero, suc, ◌+◌, ◌++◌, ◌⊎◌, inl, inr, length, map, take, List, [], ◌∷◌, Option, Some, None, true, false, refl, sym, ap, ◌∙◌, subst}
 use Rattle.std.specs.Prelude.{slice_get, IsTrue, flat_map}
-use Rattle.std.proofs.lemmas.Option.{same_Some, slice_get_within}
+use Rattle.std.proofs.lemmas.Option.{same_Some}
 use Rattle.souper_graph.specs.Values.{PlainAssignment, PlainStatement, assigned, condition, block_condition, PlainInfer, inferred, Item}
-use Rattle.souper_graph.specs.Uses.{Has, Use, value_use, block_use, position_of, uses_of, uses_of_optional, used_at, is_condition, conditions_from, conditions, Needed, walked, used, NeededIn, walks_of, first_roots}
+use Rattle.souper_graph.specs.Uses.{Has, Use, value_use, block_use, position_of, uses_of, uses_of_optional, used_at, is_condition, conditions, Needed, walked, used, NeededIn}
 use Rattle.souper_graph.specs.WellFormed.{WellFormed, IsAssigned, IsBlock, IsMet, AreMet}
 use Rattle.souper_graph.specs.Sameness.{carried}
 use Rattle.souper_graph.specs.LeftSides.{with_infer}
 use Rattle.souper_graph.proofs.Lists.{Has-left, Has-right, Has-cases, Has-mapped}
 use Rattle.souper_graph.proofs.Order.Needed.{needed_more}
-use Rattle.souper_graph.proofs.Judging.Needed.{plain_uses, plain_first, well_formed_below, well_formed_inside}
+use Rattle.souper_graph.proofs.Judging.Needed.{well_formed_below}
 use Rattle.souper_graph.proofs.Sameness.Carrying.{condition-carried}
-use Rattle.souper_embedding.specs.Embedding.{StandsFor, WantsWithin, RootNeeds, EmbedsLeft}
-use Rattle.souper_embedding.specs.Maps.{GoesTo, Follows, Binds, AreBelow, StandsAt, UseBelow, KnownAreNeeded, EachStands, IsClosedAt, IsWalked, IsOneToOne}
+use Rattle.souper_embedding.specs.Embedding.{StandsFor, WantsWithin, EmbedsLeft}
+use Rattle.souper_embedding.specs.Maps.{GoesTo, Follows, Binds, UseBelow, KnownAreNeeded, EachStands, IsClosedAt, IsWalked, IsOneToOne}
 use Rattle.souper_embedding.specs.Search.{conditions_in, walks_with, IsReached}
-use Rattle.souper_embedding.proofs.ConditionLists.{IsConditionAt, condition-in, has-condition}
-use Rattle.souper_embedding.proofs.Walking.{one-image}
+use Rattle.souper_embedding.proofs.ConditionLists.{condition-in, has-condition}
 
 -- ---- what the left-hand side needs
 

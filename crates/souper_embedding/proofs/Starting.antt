@@ -1,20 +1,19 @@
 -- The map that the roots give.
-use Rattle.std.proofs.Common.{◌≡◌, ℕ, zero, suc, ◌+◌, ◌<◌, ◌≤◌, ◌++◌, ◌⊎◌, inl, inr, length, map, List, [], ◌∷◌, Option, Some, None, Bool, true, false, refl, sym, ap, ◌∙◌, subst, arith}
-use Rattle.std.specs.Prelude.{slice_get}
+use Rattle.std.proofs.Common.{◌≡◌, ℕ, zero, suc, ◌+◌, ◌<◌, ◌++◌, inl, inr, length, List, [], ◌∷◌, Option, Some, None, refl, sym, ◌∙◌}
 use Rattle.std.proofs.lemmas.Option.{same_Some, slice_get_within}
 use Rattle.souper_graph.specs.Values.{PlainStatement, PlainInfer, inferred, Item}
-use Rattle.souper_graph.specs.Uses.{Has, used_at, conditions_from, Needed, walked, used, NeededIn}
+use Rattle.souper_graph.specs.Uses.{Has, conditions_from, walked}
 use Rattle.souper_graph.specs.WellFormed.{WellFormed}
 use Rattle.souper_graph.specs.LeftSides.{with_infer}
 use Rattle.souper_graph.proofs.Lists.{Has-left}
 use Rattle.souper_graph.proofs.Order.Needed.{needed_more}
 use Rattle.souper_graph.proofs.Judging.Needed.{well_formed_below, well_formed_inside}
-use Rattle.souper_embedding.specs.Embedding.{RootNeeds, EmbedsLeft}
-use Rattle.souper_embedding.specs.Maps.{GoesTo, Follows, Binds, AreBelow, StandsAt, UseBelow, KnownAreNeeded, EachStands, IsWalked, IsOneToOne, IsUnknown}
+use Rattle.souper_embedding.specs.Embedding.{EmbedsLeft}
+use Rattle.souper_embedding.specs.Maps.{GoesTo, Follows, Binds, UseBelow, KnownAreNeeded, EachStands, IsWalked, IsOneToOne, IsUnknown}
 use Rattle.souper_embedding.specs.Search.{IsReached}
 use Rattle.souper_embedding.proofs.Searching.{all_walks, each-stands, reached-root}
 
-abbrev LeftItem : List PlainStatement → PlainInfer → Item
+abbrev pub LeftItem : List PlainStatement → PlainInfer → Item
 LeftItem ss i = record { statements = ss; ending = inferred i }
 
 root-walk : (ss : List PlainStatement) (i : PlainInfer) (p : ℕ) → Has (i.value ∷ []) p → Has ((i.value ∷ conditions_from 0 ss) ++ []) p

@@ -1,10 +1,10 @@
 -- From where a map is known, it is made known at all that is needed.
-use Rattle.std.proofs.Common.{◌≡◌, ℕ, zero, suc, ◌+◌, ◌<◌, ◌≤◌, ◌⊎◌, inl, inr, length, List, [], ◌∷◌, Option, Some, None, true, Bool, refl, sym, ap, ◌∙◌, subst, arith}
+use Rattle.std.proofs.Common.{◌≡◌, ℕ, suc, ◌≤◌, inl, inr, length, List, Option, Some, None, sym, ◌∙◌, subst, arith}
 use Rattle.std.specs.Prelude.{slice_get}
 use Rattle.std.proofs.lemmas.Option.{same_Some, slice_get_within}
 use Rattle.std.proofs.lemmas.Bool.{cases_order}
 use Rattle.souper_graph.specs.Values.{PlainStatement}
-use Rattle.souper_graph.specs.Uses.{Has, used_at, Needed, walked, used}
+use Rattle.souper_graph.specs.Uses.{used_at, used}
 use Rattle.souper_embedding.specs.Maps.{GoesTo, Follows, Binds, AreBelow, StandsAt, UseBelow, KnownAreNeeded, EachStands, IsClosedAt, IsWalked}
 use Rattle.souper_embedding.proofs.KnownMaps.{follows-old}
 

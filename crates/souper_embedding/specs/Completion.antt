@@ -1,5 +1,5 @@
 -- Definitions. A left-hand side that is completed by the result of a replacement that embeds into it.
-use Rattle.std.specs.Prelude.{ℕ, ◌+◌, ◌++◌, List, [], ◌∷◌, map, length, drop, flat_map, if◌then◌else◌, nat_lt, slice_get, suc}
+use Rattle.std.specs.Prelude.{ℕ, ◌+◌, ◌++◌, List, [], ◌∷◌, length, drop, flat_map, if◌then◌else◌, nat_lt, slice_get, suc}
 use Rattle.souper_graph.specs.declared.ast.operands.Operand.{Operand}
 use Rattle.souper_graph.specs.Values.{PlainStatement, PlainInfer, replaced, Item}
 use Rattle.souper_graph.specs.Order.{printed_order, lead_of}

@@ -1,5 +1,5 @@
 -- Definitions. When a stored replacement answers a left-hand side that may have more conditions and facts.
-use Rattle.std.specs.Prelude.{◌≡◌, ℕ, true, false, List, [], ◌∷◌, Bool, IsTrue, Some, slice_get}
+use Rattle.std.specs.Prelude.{◌≡◌, ℕ, false, List, [], ◌∷◌, Bool, IsTrue, Some, slice_get}
 use Rattle.souper_graph.specs.declared.ast.operands.Operand.{Operand}
 use Rattle.souper_graph.specs.Values.{PlainAttribute, has_external_uses, PlainRootAttribute, demanded_bits, PlainAssignment, PlainStatement, assigned, PlainInfer, inferred, replaced, Item}
 use Rattle.souper_graph.specs.Uses.{Has, is_condition, Needed, NeededIn}

@@ -1,10 +1,10 @@
 -- Definitions. Worked examples: replacements, and left-hand sides that they answer or not.
-use Rattle.std.specs.Prelude.{ℕ, pos, true, false, List, [], ◌∷◌, Bool, None, Some, Option, codes, get_or}
+use Rattle.std.specs.Prelude.{ℕ, pos, List, [], ◌∷◌, None, Some, Option, codes, get_or}
 use Rattle.souper_graph.specs.declared.ast.operands.«Type».{«Type» as Ty}
 use Rattle.souper_graph.specs.declared.ast.operands.Operand.{Operand}
 use Rattle.souper_graph.specs.declared.ast.operands.Operand.TheVariants.{Value, Constant}
 use Rattle.souper_graph.specs.declared.ast.instructions.Instruction.TheVariants.{Sub, Ult, Shl}
-use Rattle.souper_graph.specs.Values.{PlainAttribute, negative, non_zero, PlainRootAttribute, demanded_bits, PlainRhs, var, block, phi, instruction, PlainStatement, assigned, condition, block_condition, Ending, inferred, replaced, Item}
+use Rattle.souper_graph.specs.Values.{PlainAttribute, PlainRootAttribute, PlainRhs, var, block, phi, instruction, PlainStatement, assigned, condition, block_condition, Ending, inferred, replaced, Item}
 
 abbrev pub byte : Option Ty
 byte = Some (record { width = 8 })

@@ -4,4 +4,7 @@
 //! graph of the root, the path conditions of the replacement among those of the query, and its facts among the query's.
 #![tactic(auto)]
 
+mod facts;
 pub mod laws;
+mod maps;
+mod walk;
