@@ -1,0 +1,12 @@
+pub mod Examples
+pub mod KnownMaps
+pub mod Operands
+pub mod Walking
+pub mod Inverses
+pub mod ConditionLists
+pub mod Searching
+pub mod RootGraphs
+pub mod Starting
+pub mod Listed
+pub mod Wanting
+pub mod Assignments
