@@ -1,0 +1,10 @@
+//! The meaning of the words of Souper IR on numbers: what an instruction gives for a number, for poison and for undefined
+//! behaviour, at widths of up to 128 bits.
+#![tactic(auto)]
+
+pub mod laws;
+mod outcome;
+mod words;
+
+pub use outcome::Outcome;
+pub use words::Word;
