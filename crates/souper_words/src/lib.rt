@@ -2,6 +2,8 @@
 //! behaviour, at widths of up to 128 bits.
 #![tactic(auto)]
 
+mod arithmetic;
+mod bits;
 pub mod laws;
 mod outcome;
 mod words;
