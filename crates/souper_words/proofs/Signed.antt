@@ -7,6 +7,7 @@ use Rattle.std.proofs.lemmas.Nat.{pow_pos, pow-add, div_below, shr_split, mod_be
 use Rattle.std.proofs.lemmas.Nat.Bits.{ones_shr}
 use Rattle.std.proofs.Math.Pow.{mod-mod-pow, pow_mono}
 use Rattle.std.proofs.lemmas.Bool.Decides.{leb_tells}
+use Rattle.std.proofs.lemmas.Bool.{cases_lt}
 use Rattle.std.specs.Int.Signed.{mag}
 use Rattle.souper_words.specs.Numbers.{signed, bits_of, is_out}
 
@@ -113,3 +114,23 @@ tests-is_out w z g h f e t =
     let i : cast_signed w128 (cast_unsigned w128 z) ≡ z = to_z-of_z w128 z f in
     let u : int_lt z (negsuc (2 ^ (w - 1) - 1)) ≡ false = ap (λ n. int_lt z (negsuc n)) (sym e) ∙ sym (ap (λ x. int_lt x (negsuc g)) i) ∙ sym (ap (int_lt (cast_signed w128 (cast_unsigned w128 z))) b) ∙ t in
     ap (λ x. int_lt x (cast_signed w128 (cast_unsigned w128 z))) a ∙ ap (int_lt (pos g)) i ∙ ap (λ n. int_lt (pos n) z) e ∙ above-is_out w z u
+
+less : (w a b : ℕ) → w ≤ 128 → b < 2 ^ 128 → a < b → (a + (2 ^ 128 - b)) % 2 ^ 128 % 2 ^ w ≡ bits_of w (pos a -ℤ pos b)
+less w a b h q l =
+    let e : a + (2 ^ 128 - b) ≡ 2 ^ 128 - suc (b - 1 - a) = omega arith in
+    let f : (2 ^ ((128 - w) + w) - suc (b - 1 - a)) % 2 ^ w ≡ 2 ^ w - 1 - (b - 1 - a) % 2 ^ w = complement-mod (128 - w) w (b - 1 - a) (rw (rest_of w h) (omega arith)) in
+    mod_of_128 w (a + (2 ^ 128 - b)) h ∙ ap (λ n. n % 2 ^ w) e ∙ ap (λ n. (2 ^ n - suc (b - 1 - a)) % 2 ^ w) (sym (rest_of w h)) ∙ f
+    ∙ sym (ap (bits_of w) (minus_above a b l))
+
+more : (w a b : ℕ) → w ≤ 128 → b ≤ a → (a + (2 ^ 128 - b)) % 2 ^ 128 % 2 ^ w ≡ bits_of w (pos a -ℤ pos b)
+more w a b h l = ?
+
+-- the difference that the code computes
+pub difference_bits : (w a b : ℕ) → w ≤ 128 → a < 2 ^ 128 → b < 2 ^ 128 → (a + (2 ^ 128 - b)) % 2 ^ 128 % 2 ^ w ≡ bits_of w (pos a -ℤ pos b)
+difference_bits w a b h p q = elim (cases_lt a b) [ inl l ↦ less w a b h q l | inr l ↦ more w a b h l ]
+
+-- a number of 128 bits or more has w or more
+pub exceeds_wide : (w m : ℕ) → w ≤ 128 → ¬ (m < 2 ^ 128) → leb (2 ^ w) m ≡ true
+exceeds_wide w m h f =
+    let p : 2 ^ w ≤ 2 ^ 128 = pow_mono h in
+    elim (leb_tells (2 ^ w) m) [ inl t ↦ t.0 | inr t ↦ absurd (f (omega (arith, p, t.1))) ]

@@ -1,8 +1,8 @@
 //! Sums, differences and products.
 
-ghost use Rattle.std.specs.Prelude.{if◌then◌else◌, ◌≡◌, ◌+◌, ◌*◌, ◌^◌, ◌<◌, ◌≤◌, nat_le, ℕ, pos, ◌+ℤ◌, ◌-ℤ◌, ◌*ℤ◌, SomeIff};
+ghost use Rattle.std.specs.Prelude.{if◌then◌else◌, ◌≡◌, ◌+◌, ◌*◌, ◌^◌, ◌<◌, ◌≤◌, nat_le, nat_lt, ℕ, pos, ◌+ℤ◌, ◌-ℤ◌, ◌*ℤ◌, SomeIff};
 ghost use Rattle.souper_words.specs.declared.outcome.Outcome.TheVariants.{Number, Poison};
-ghost use Rattle.souper_words.specs.declared.words.Word.TheVariants.{Add, AddNsw, AddNw};
+ghost use Rattle.souper_words.specs.declared.words.Word.TheVariants.{Add, AddNsw, AddNuw, AddNw, Sub, SubNsw, SubNuw, SubNw, Mul, MulNsw, MulNuw, MulNw};
 ghost use Rattle.souper_words.specs.Numbers.{signed, bits_of, is_out};
 ghost use Rattle.souper_words.specs.Words.{row, row_outcome};
 
@@ -13,7 +13,11 @@ use crate::outcome::Outcome;
 pub fn unless(poison: bool, n: u128) -> Outcome
     ensures { result ≡ (if poison then Poison else Number n) }
 {
-    if poison { Outcome::Poison } else { Outcome::Number(n) }
+    if poison {
+        Outcome::Poison
+    } else {
+        Outcome::Number(n)
+    }
 }
 
 /// The lowest bits of a sum.
@@ -129,6 +133,15 @@ pub fn addnsw(a: u128, b: u128, width: u32) -> Outcome
     unless(signed_sum_wraps(a, b, width), sum(a, b, width))
 }
 
+/// `addnuw`
+pub fn addnuw(a: u128, b: u128, width: u32) -> Outcome
+    requires low { 1 ≤ width }
+    requires high { width ≤ 128 }
+    ensures { result ≡ row_outcome width (row AddNuw width width a b 0) }
+{
+    unless(sum_wraps(a, b, width), sum(a, b, width))
+}
+
 /// `addnw`
 pub fn addnw(a: u128, b: u128, width: u32) -> Outcome
     requires low { 1 ≤ width }
@@ -139,4 +152,89 @@ pub fn addnw(a: u128, b: u128, width: u32) -> Outcome
 {
     let wraps = signed_sum_wraps(a, b, width) || sum_wraps(a, b, width);
     unless(wraps, sum(a, b, width))
+}
+
+/// `sub`
+pub fn sub(a: u128, b: u128, width: u32) -> Outcome
+    requires low { 1 ≤ width }
+    requires high { width ≤ 128 }
+    ensures { result ≡ row_outcome width (row Sub width width a b 0) }
+{
+    Outcome::Number(difference(a, b, width))
+}
+
+/// `subnsw`
+pub fn subnsw(a: u128, b: u128, width: u32) -> Outcome
+    requires low { 1 ≤ width }
+    requires high { width ≤ 128 }
+    requires fits_a { a < 2 ^ width }
+    requires fits_b { b < 2 ^ width }
+    ensures { result ≡ row_outcome width (row SubNsw width width a b 0) }
+{
+    unless(
+        signed_difference_wraps(a, b, width),
+        difference(a, b, width),
+    )
+}
+
+/// `subnuw`
+pub fn subnuw(a: u128, b: u128, width: u32) -> Outcome
+    requires low { 1 ≤ width }
+    requires high { width ≤ 128 }
+    ensures { result ≡ row_outcome width (row SubNuw width width a b 0) }
+{
+    unless(a < b, difference(a, b, width))
+}
+
+/// `subnw`
+pub fn subnw(a: u128, b: u128, width: u32) -> Outcome
+    requires low { 1 ≤ width }
+    requires high { width ≤ 128 }
+    requires fits_a { a < 2 ^ width }
+    requires fits_b { b < 2 ^ width }
+    ensures { result ≡ row_outcome width (row SubNw width width a b 0) }
+{
+    let wraps = signed_difference_wraps(a, b, width) || a < b;
+    unless(wraps, difference(a, b, width))
+}
+
+/// `mul`
+pub fn mul(a: u128, b: u128, width: u32) -> Outcome
+    requires low { 1 ≤ width }
+    requires high { width ≤ 128 }
+    ensures { result ≡ row_outcome width (row Mul width width a b 0) }
+{
+    Outcome::Number(product(a, b, width))
+}
+
+/// `mulnsw`
+pub fn mulnsw(a: u128, b: u128, width: u32) -> Outcome
+    requires low { 1 ≤ width }
+    requires high { width ≤ 128 }
+    requires fits_a { a < 2 ^ width }
+    requires fits_b { b < 2 ^ width }
+    ensures { result ≡ row_outcome width (row MulNsw width width a b 0) }
+{
+    unless(signed_product_wraps(a, b, width), product(a, b, width))
+}
+
+/// `mulnuw`
+pub fn mulnuw(a: u128, b: u128, width: u32) -> Outcome
+    requires low { 1 ≤ width }
+    requires high { width ≤ 128 }
+    ensures { result ≡ row_outcome width (row MulNuw width width a b 0) }
+{
+    unless(product_wraps(a, b, width), product(a, b, width))
+}
+
+/// `mulnw`
+pub fn mulnw(a: u128, b: u128, width: u32) -> Outcome
+    requires low { 1 ≤ width }
+    requires high { width ≤ 128 }
+    requires fits_a { a < 2 ^ width }
+    requires fits_b { b < 2 ^ width }
+    ensures { result ≡ row_outcome width (row MulNw width width a b 0) }
+{
+    let wraps = signed_product_wraps(a, b, width) || product_wraps(a, b, width);
+    unless(wraps, product(a, b, width))
 }

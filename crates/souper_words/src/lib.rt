@@ -4,8 +4,10 @@
 
 mod arithmetic;
 mod bits;
+mod divisions;
 pub mod laws;
 mod outcome;
+mod shifts;
 mod words;
 
 pub use outcome::Outcome;
