@@ -1,1 +1,3 @@
+pub mod Dividing
+pub mod Shifting
 pub mod Signed

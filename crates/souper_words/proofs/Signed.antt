@@ -6,6 +6,7 @@ use Rattle.std.proofs.lemmas.Int.{ints, to_z-of_z}
 use Rattle.std.proofs.lemmas.Nat.{pow_pos, pow-add, div_below, shr_split, mod_below, mod-mul-add}
 use Rattle.std.proofs.lemmas.Nat.Bits.{ones_shr}
 use Rattle.std.proofs.Math.Pow.{mod-mod-pow, pow_mono}
+use Rattle.std.proofs.Math.Nat.{add-mul-mod_self_right}
 use Rattle.std.proofs.lemmas.Bool.Decides.{leb_tells}
 use Rattle.std.proofs.lemmas.Bool.{cases_lt}
 use Rattle.std.specs.Int.Signed.{mag}
@@ -22,8 +23,11 @@ mask_is w h = ones_shr 128 (128 - w) (omega arith) ∙ ap (λ k. 2 ^ k - 1) (ome
 pub power_twice : (w : ℕ) → 1 ≤ w → 2 ^ w ≡ 2 ^ (w - 1) + 2 ^ (w - 1)
 power_twice w h = ap (λ k. 2 ^ k) (let e : w ≡ (w - 1) + 1 = omega arith in e) ∙ pow-add 2 (w - 1) 1 ∙ omega arith
 
-minus_above : (n m : ℕ) → n < m → pos n -ℤ pos m ≡ negsuc (m - 1 - n)
+pub minus_above : (n m : ℕ) → n < m → pos n -ℤ pos m ≡ negsuc (m - 1 - n)
 minus_above n m h = omega (arith, ints)
+
+pub minus_below : (n m : ℕ) → m ≤ n → pos n -ℤ pos m ≡ pos (n - m)
+minus_below n m h = omega (arith, ints)
 
 -- a number that has its top bit, as a signed one
 pub signed-high : (w n : ℕ) → 2 ^ (w - 1) ≤ n → n < 2 ^ w → signed w n ≡ negsuc (2 ^ w - 1 - n)
@@ -122,12 +126,16 @@ less w a b h q l =
     mod_of_128 w (a + (2 ^ 128 - b)) h ∙ ap (λ n. n % 2 ^ w) e ∙ ap (λ n. (2 ^ n - suc (b - 1 - a)) % 2 ^ w) (sym (rest_of w h)) ∙ f
     ∙ sym (ap (bits_of w) (minus_above a b l))
 
-more : (w a b : ℕ) → w ≤ 128 → b ≤ a → (a + (2 ^ 128 - b)) % 2 ^ 128 % 2 ^ w ≡ bits_of w (pos a -ℤ pos b)
-more w a b h l = ?
+more : (w a b : ℕ) → w ≤ 128 → b < 2 ^ 128 → b ≤ a → (a + (2 ^ 128 - b)) % 2 ^ 128 % 2 ^ w ≡ bits_of w (pos a -ℤ pos b)
+more w a b h q l =
+    let e : a + (2 ^ 128 - b) ≡ (a - b) + 2 ^ 128 = omega arith in
+    let f : 2 ^ 128 ≡ 2 ^ (128 - w) * 2 ^ w = ap (λ n. 2 ^ n) (sym (rest_of w h)) ∙ pow-add 2 (128 - w) w in
+    mod_of_128 w (a + (2 ^ 128 - b)) h ∙ ap (λ n. n % 2 ^ w) (e ∙ ap (λ n. (a - b) + n) f) ∙ add-mul-mod_self_right (a - b) (2 ^ (128 - w)) (2 ^ w)
+    ∙ sym (ap (bits_of w) (minus_below a b l))
 
 -- the difference that the code computes
 pub difference_bits : (w a b : ℕ) → w ≤ 128 → a < 2 ^ 128 → b < 2 ^ 128 → (a + (2 ^ 128 - b)) % 2 ^ 128 % 2 ^ w ≡ bits_of w (pos a -ℤ pos b)
-difference_bits w a b h p q = elim (cases_lt a b) [ inl l ↦ less w a b h q l | inr l ↦ more w a b h l ]
+difference_bits w a b h p q = elim (cases_lt a b) [ inl l ↦ less w a b h q l | inr l ↦ more w a b h q l ]
 
 -- a number of 128 bits or more has w or more
 pub exceeds_wide : (w m : ℕ) → w ≤ 128 → ¬ (m < 2 ^ 128) → leb (2 ^ w) m ≡ true
