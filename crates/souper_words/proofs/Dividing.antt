@@ -57,15 +57,15 @@ pub mag-signed : (w n : ℕ) → 1 ≤ w → n < 2 ^ w → mag (signed w n) < 2 
 mag-signed w n h l =
     let e : 2 ^ w ≡ 2 ^ (w - 1) + 2 ^ (w - 1) = power_twice w h in
     elim (cases_lt n (2 ^ (w - 1))) [
-      inl k ↦ rw (signed-low w n k) k
-    | inr k ↦ rw (signed-high w n k l) (omega arith)
+      | inl k ↦ rw (signed-low w n k) k
+      | inr k ↦ rw (signed-high w n k l) (omega arith)
     ]
 
 signed-negative : (w n k : ℕ) → n < 2 ^ w → signed w n ≡ negsuc k → (2 ^ (w - 1) ≤ n) × (k ≡ 2 ^ w - 1 - n)
 signed-negative w n k l e =
     elim (cases_lt n (2 ^ (w - 1))) [
-      inl h ↦ absurd (let g : pos n ≡ negsuc k = sym (signed-low w n h) ∙ e in cc)
-    | inr h ↦ (h, let g : negsuc k ≡ negsuc (2 ^ w - 1 - n) = sym e ∙ signed-high w n h l in cc)
+      | inl h ↦ absurd (let g : pos n ≡ negsuc k = sym (signed-low w n h) ∙ e in cc)
+      | inr h ↦ (h, let g : negsuc k ≡ negsuc (2 ^ w - 1 - n) = sym e ∙ signed-high w n h l in cc)
     ]
 
 or_and : (x y z : Bool) → (x || (y && z)) ≡ false → y ≡ true → z ≡ true → ⊥

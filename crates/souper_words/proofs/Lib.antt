@@ -1,3 +1,6 @@
+pub mod Counting
 pub mod Dividing
+pub mod Reversing
+pub mod Saturating
 pub mod Shifting
 pub mod Signed

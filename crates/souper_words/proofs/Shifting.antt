@@ -17,16 +17,16 @@ leb-false m n h = grind (arith, leb_tells)
 leb-scaled : (x a y : ℕ) → 0 < y → leb x a ≡ leb (x * y) (a * y)
 leb-scaled x a y h =
     elim (leb_tells x a) [
-      inl t ↦ t.0 ∙ sym (leb-true (x * y) (a * y) (mul-le-mul_right y t.1))
-    | inr t ↦ t.0 ∙ sym (leb-false (x * y) (a * y) (let l : suc a * y ≤ x * y = mul-le-mul_right y t.1 in omega arith))
+      | inl t ↦ t.0 ∙ sym (leb-true (x * y) (a * y) (mul-le-mul_right y t.1))
+      | inr t ↦ t.0 ∙ sym (leb-false (x * y) (a * y) (let l : suc a * y ≤ x * y = mul-le-mul_right y t.1 in omega arith))
     ]
 
 -- the same where the right side is one less than the next multiple
 leb-below_next : (x a y : ℕ) → 0 < y → leb x a ≡ leb (x * y) (suc a * y - 1)
 leb-below_next x a y h =
     elim (leb_tells x a) [
-      inl t ↦ t.0 ∙ sym (leb-true (x * y) (suc a * y - 1) (let l : x * y ≤ a * y = mul-le-mul_right y t.1 in omega arith))
-    | inr t ↦ t.0 ∙ sym (leb-false (x * y) (suc a * y - 1) (let l : suc a * y ≤ x * y = mul-le-mul_right y t.1 in omega arith))
+      | inl t ↦ t.0 ∙ sym (leb-true (x * y) (suc a * y - 1) (let l : x * y ≤ a * y = mul-le-mul_right y t.1 in omega arith))
+      | inr t ↦ t.0 ∙ sym (leb-false (x * y) (suc a * y - 1) (let l : suc a * y ≤ x * y = mul-le-mul_right y t.1 in omega arith))
     ]
 
 mag-negative : (n : ℕ) → 0 < n → mag (neg_ℤ (pos n)) ≡ n - 1

@@ -1,5 +1,5 @@
 -- Definitions. The meaning of each word: its number, when it is poison, and when it is undefined behaviour.
-use Rattle.std.specs.Prelude.{ℕ, ◌+◌, ◌-◌, ◌*◌, ◌/◌, ◌%◌, ◌^◌, min, Bool, true, false, not, ◌&&◌, ◌||◌, ◌==◌, nat_lt, nat_le, if◌then◌else◌, ℤ, pos, ◌+ℤ◌, ◌-ℤ◌, ◌*ℤ◌, bit_and, bit_or, bit_xor, count_ones, unsigned_abs, int_lt, int_le, int_div}
+use Rattle.std.specs.Prelude.{◌≡◌, ◌≤◌, ℕ, ◌+◌, ◌-◌, ◌*◌, ◌/◌, ◌%◌, ◌^◌, min, Bool, false, not, ◌&&◌, ◌||◌, ◌==◌, nat_lt, nat_le, if◌then◌else◌, ℤ, pos, ◌+ℤ◌, ◌-ℤ◌, ◌*ℤ◌, bit_and, bit_or, bit_xor, count_ones, unsigned_abs, int_lt, int_le, int_div}
 use Rattle.std.specs.Int.{saturate_to_bits, int_shr}
 use Rattle.std.specs.Int.Count.{count_leading_zeros, count_trailing_zeros}
 use Rattle.souper_words.specs.declared.outcome.Outcome.{Outcome}
@@ -94,19 +94,10 @@ row Freeze w v a b c = (pos a, never, never)
 abbrev pub row_outcome : ℕ → ℤ × Bool × Bool → Outcome
 row_outcome w (n, poison, undefined) = if undefined then Undefined else if poison then Poison else Number (bits_of w n)
 
-abbrev pub is_division : Word → Bool
-is_division Udiv = true
-is_division Sdiv = true
-is_division UdivExact = true
-is_division SdivExact = true
-is_division Urem = true
-is_division Srem = true
-is_division x = false
-
--- A division by poison is undefined behaviour, and so is what the row says. There a poison dividend is the least signed number,
--- since it may be.
+-- Whether operands make a row undefined behaviour. A poison divisor counts as 0, a poison dividend as the least signed number,
+-- since they may be.
 abbrev pub is_undefined_at : Word → ℕ → ℕ → Outcome → Outcome → Bool
-is_undefined_at x w v a b = is_division x && (is_poison b || (row x w v (number_or (2 ^ (v - 1)) a) (number_or 0 b) 0).2)
+is_undefined_at x w v a b = (row x w v (number_or (2 ^ (v - 1)) a) (number_or 0 b) 0).2
 
 -- operands that are not undefined: poison if one is, else what the row says, but for two words
 abbrev pub outcome_of_operands : Word → ℕ → ℕ → ℕ → Outcome → Outcome → Outcome → Outcome
@@ -117,3 +108,24 @@ outcome_of_operands x w v choice a b c = if is_poison a || is_poison b || is_poi
 -- The outcome of a word, where a freeze of poison gives the choice. Operands that a word lacks count as the number 0.
 abbrev pub outcome : Word → ℕ → ℕ → ℕ → Outcome → Outcome → Outcome → Outcome
 outcome x w v choice a b c = if is_undefined a || is_undefined b || is_undefined c || is_undefined_at x w v a b then Undefined else outcome_of_operands x w v choice a b c
+
+-- the widths of a result and of operands that a word may have, as far as its outcome needs them
+abbrev pub AreWidths : Word → ℕ → ℕ → Type 0
+AreWidths Zext w v = Unit {0}
+AreWidths Sext w v = Unit {0}
+AreWidths Trunc w v = Unit {0}
+AreWidths Eq w v = w ≡ 1
+AreWidths Ne w v = w ≡ 1
+AreWidths Ult w v = w ≡ 1
+AreWidths Slt w v = w ≡ 1
+AreWidths Ule w v = w ≡ 1
+AreWidths Sle w v = w ≡ 1
+AreWidths SaddWithOverflow w v = w ≡ v + 1
+AreWidths UaddWithOverflow w v = w ≡ v + 1
+AreWidths SsubWithOverflow w v = w ≡ v + 1
+AreWidths UsubWithOverflow w v = w ≡ v + 1
+AreWidths SmulWithOverflow w v = w ≡ v + 1
+AreWidths UmulWithOverflow w v = w ≡ v + 1
+AreWidths ExtractValue w v = 2 ≤ v
+AreWidths Bswap w v = (w ≡ v) × (v % 16 ≡ 0)
+AreWidths x w v = w ≡ v

@@ -10,7 +10,7 @@ use crate::bits::{mask, signed_bits, signed_number};
 use crate::outcome::Outcome;
 
 /// Whether a signed division is by 0, or of the least number by -1.
-fn divides_beyond(a: u128, b: u128, width: u32) -> bool
+pub fn divides_beyond(a: u128, b: u128, width: u32) -> bool
     requires low { 1 ≤ width }
     requires high { width ≤ 128 }
     ensures { result ≡ divides_out width a b }

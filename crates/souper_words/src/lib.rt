@@ -4,11 +4,16 @@
 
 mod arithmetic;
 mod bits;
+mod bitwise;
+mod comparisons;
 mod divisions;
+mod eval;
 pub mod laws;
 mod outcome;
+mod overflows;
 mod shifts;
 mod words;
 
+pub use eval::{Widths, outcome_of};
 pub use outcome::Outcome;
 pub use words::Word;

@@ -75,7 +75,7 @@ pub fn shl(a: u128, b: u128, width: u32) -> Outcome
     requires high { width ≤ 128 }
     ensures { result ≡ row_outcome width (row Shl width width a b 0) }
 {
-    if b >= width as u128 {
+    if width as u128 <= b {
         return Outcome::Poison;
     }
     Outcome::Number(shifted_left(a, b, width))

@@ -6,6 +6,6 @@ use Rattle.souper_words.proofs.divisions.udiv.Goals as goal
 pub returns : goal.returns
 returns c =
     sym (
-      row_defined c.args.width (pos (c.args.a / c.args.b)) false (eqb c.args.b 0) (eqb-zero c.args.b c.if-b-eq0.false)
-      ∙ ap Number (quotient_small c.args.width c.args.a c.args.b c.requires.fits_a)
+    row_defined c.args.width (pos (c.args.a / c.args.b)) false (eqb c.args.b 0) (eqb-zero c.args.b c.if-b-eq0.false)
+    ∙ ap Number (quotient_small c.args.width c.args.a c.args.b c.requires.fits_a)
     )

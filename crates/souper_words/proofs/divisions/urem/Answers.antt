@@ -6,6 +6,6 @@ use Rattle.souper_words.proofs.divisions.urem.Goals as goal
 pub returns : goal.returns
 returns c =
     sym (
-      row_defined c.args.width (pos c.args.a -ℤ pos (c.args.b * (c.args.a / c.args.b))) false (eqb c.args.b 0) (eqb-zero c.args.b c.if-b-eq0.false)
-      ∙ ap Number (rest_bits c.args.width c.args.a c.args.b c.requires.fits_a)
+    row_defined c.args.width (pos c.args.a -ℤ pos (c.args.b * (c.args.a / c.args.b))) false (eqb c.args.b 0) (eqb-zero c.args.b c.if-b-eq0.false)
+    ∙ ap Number (rest_bits c.args.width c.args.a c.args.b c.requires.fits_a)
     )

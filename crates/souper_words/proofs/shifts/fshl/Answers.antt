@@ -15,8 +15,8 @@ returns c =
     let h : c.args.width - c.args.c % c.args.width ≤ c.args.width = omega arith in
     let e : c.args.width - (c.args.width - c.args.c % c.args.width) ≡ c.args.c % c.args.width = omega arith in
     ap Number (
-      c.low_bits.ensures
-      ∙ ap (λ n. bit_or (c.args.a * 2 ^ n % 2 ^ 128) (c.args.b / 2 ^ (w - k)) % 2 ^ w) (sym e)
-      ∙ funnel w c.args.a c.args.b (w - k) h c.requires.high c.requires.fits_b
-      ∙ ap (λ n. n % 2 ^ w) (sym (left_then_right w (c.args.a * 2 ^ w + c.args.b) k (omega arith)))
+    c.low_bits.ensures
+    ∙ ap (λ n. bit_or (c.args.a * 2 ^ n % 2 ^ 128) (c.args.b / 2 ^ (w - k)) % 2 ^ w) (sym e)
+    ∙ funnel w c.args.a c.args.b (w - k) h c.requires.high c.requires.fits_b
+    ∙ ap (λ n. n % 2 ^ w) (sym (left_then_right w (c.args.a * 2 ^ w + c.args.b) k (omega arith)))
     )
