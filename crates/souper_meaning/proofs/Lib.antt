@@ -1,1 +1,2 @@
+pub mod ByPosition
 pub mod Modes

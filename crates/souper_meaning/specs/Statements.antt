@@ -1,7 +1,8 @@
 -- Definitions. The outcome of each statement in a world, by position.
-use Rattle.std.specs.Prelude.{ℕ, suc, List, [], ◌∷◌, ◌++◌, Option, Some, None, slice_get, slice_index_or}
+use Rattle.std.specs.Prelude.{◌≡◌, ℕ, suc, List, [], ◌∷◌, ◌++◌, Option, Some, None, slice_get, slice_index_or}
 use Rattle.souper_graph.specs.declared.ast.operands.Operand.{Operand}
 use Rattle.souper_graph.specs.Values.{PlainRhs, var, block, phi, reserved_inst, reserved_const, instruction, PlainStatement, assigned, condition, block_condition, Item}
+use Rattle.souper_graph.specs.Uses.{NeededIn}
 use Rattle.souper_widths.specs.Maps.{WidthMap, result_width, operand_width}
 use Rattle.souper_words.specs.declared.outcome.Outcome.{Outcome}
 use Rattle.souper_words.specs.declared.outcome.Outcome.TheVariants.{Number, Undefined}
@@ -43,3 +44,7 @@ outcomes a m x = outcomes_from m x 0 [] a.statements
 -- the outcome of the statement at a position
 abbrev pub out : Item → WidthMap → World → ℕ → Outcome
 out a m x p = outcome_in (outcomes a m x) p
+
+-- the outcome at each needed position is what its statement says of the outcomes
+abbrev pub IsByStatement : Item → WidthMap → World → Type 0
+IsByStatement a m x = (p : ℕ) (s : PlainStatement) → NeededIn a p → slice_get a.statements p ≡ Some s → out a m x p ≡ statement_outcome m x p (out a m x) s

@@ -2,10 +2,11 @@
 
 ghost use Rattle.std.specs.Prelude.{◌≡◌};
 ghost use Rattle.souper_words.specs.declared.outcome.Outcome.TheVariants.{Number, Poison, Undefined};
-ghost use Rattle.souper_meaning.specs.Statements.{out};
+ghost use Rattle.souper_meaning.specs.Statements.{out, IsByStatement};
 ghost use Rattle.souper_graph.specs.Values.{Item};
 ghost use Rattle.souper_widths.specs.Maps.{WidthMap};
-ghost use Rattle.souper_meaning.specs.Worlds.{Mode, value_inputs, poison_inputs};
+ghost use Rattle.souper_graph.specs.WellFormed.{WellFormed};
+ghost use Rattle.souper_meaning.specs.Worlds.{World, Mode, value_inputs, poison_inputs};
 ghost use Rattle.souper_meaning.specs.Sound.{Refines, Sound, Vacuous};
 ghost use Rattle.souper_meaning.specs.Examples.{shifted, shifted_widths, chosen, chosen_widths, divided, divided_widths, world_of, reached_by};
 
@@ -18,6 +19,11 @@ pub fn law_of_outcomes()
     ensures defined_arm { out divided divided_widths (world_of (Number 1)) 2 ≡ Number 0 }
     ensures undefined_operand { out chosen chosen_widths (reached_by 0) 3 ≡ Undefined }
     ensures other_operand { out chosen chosen_widths (reached_by 1) 3 ≡ Number 0 }
+{}
+
+/// In a well-formed item the outcome at each needed position is what its statement says of the outcomes of its operands.
+pub fn law_of_positions()
+    ensures { (a : Item) (m : WidthMap) (x : World) → WellFormed a → IsByStatement a m x }
 {}
 
 /// What the right side may be: only undefined behaviour may become undefined behaviour.

@@ -2,7 +2,7 @@
 use Rattle.std.proofs.Common.{◌≡◌, ℕ, zero, suc, ◌+◌, ◌-◌, ◌*◌, ◌/◌, ◌%◌, ◌^◌, ◌<◌, ◌≤◌, List, [], ◌∷◌, ◌++◌, length, reverse, refl, sym, ◌∙◌, ap, arith}
 use Rattle.std.specs.Int.{reverse_bits_onto, swap_bytes, w128}
 use Rattle.std.proofs.lemmas.List.{length-reverse, reverse-append}
-use Rattle.std.proofs.lemmas.Nat.{pow-add, pow_pos, div_below, mod_below, shl-shr}
+use Rattle.std.proofs.lemmas.Nat.{pow-add, div_below, mod_below, shl-shr}
 use Rattle.std.proofs.Math.Nat.{pow-suc, pow-zero, zero-div, mul-le-mul_left, div-div-eq-div-mul}
 use Rattle.souper_words.specs.Numbers.{digits, number_of, reversed}
 

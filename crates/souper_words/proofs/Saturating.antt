@@ -1,5 +1,5 @@
 -- Lemmas on pairs, and on numbers that saturate.
-use Rattle.std.proofs.Common.{◌≡◌, ℕ, zero, suc, ◌+◌, ◌-◌, ◌*◌, ◌%◌, ◌^◌, ◌<◌, ◌≤◌, Bool, true, false, cond, min, ℤ, pos, negsuc, leb, sym, ◌∙◌, ap, arith, inl, inr}
+use Rattle.std.proofs.Common.{◌≡◌, ℕ, ◌+◌, ◌-◌, ◌*◌, ◌%◌, ◌^◌, ◌<◌, ◌≤◌, Bool, true, false, cond, min, ℤ, pos, negsuc, leb, sym, ◌∙◌, ap, arith, inl, inr}
 use Rattle.std.specs.Int.{saturate_to_bits}
 use Rattle.std.proofs.lemmas.Nat.{pow_pos, pow-add, one_shl}
 use Rattle.std.proofs.Math.Nat.{mod-eq_of_lt}

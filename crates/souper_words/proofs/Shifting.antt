@@ -4,7 +4,7 @@ use Rattle.std.specs.Int.Signed.{mag}
 use Rattle.std.proofs.lemmas.Nat.{pow_pos, pow-add, or_mod, or_shifted, shr_below, div-mul-add, mod-mul-add}
 use Rattle.std.proofs.Math.Nat.{mul-le-mul_right, mul-add-div_right, mod-eq_of_lt, mul-div-mul_right, mul-one, div-one}
 use Rattle.std.proofs.lemmas.Bool.Decides.{leb_tells}
-use Rattle.souper_words.specs.Numbers.{signed, is_out}
+use Rattle.souper_words.specs.Numbers.{is_out}
 use Rattle.souper_words.proofs.Signed.{is_out-size, mod_of_128}
 
 pub leb-true : (m n : ℕ) → m ≤ n → leb m n ≡ true

@@ -1,4 +1,4 @@
-use Rattle.std.proofs.Common.{◌∙◌, ◌/◌, ◌-◌, ◌^◌, ◌<◌, sym, ap, arith}
+use Rattle.std.proofs.Common.{◌∙◌, ◌/◌, ◌-◌, ◌^◌, sym, ap, arith}
 use Rattle.std.proofs.Math.Nat.{mod-eq_of_lt}
 use Rattle.souper_words.specs.declared.outcome.Outcome.TheVariants.{Number}
 use Rattle.souper_words.proofs.Reversing.{bits_reversed, reversed-below}

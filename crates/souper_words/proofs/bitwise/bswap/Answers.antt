@@ -1,6 +1,5 @@
-use Rattle.std.proofs.Common.{◌≡◌, ◌<◌, ◌∙◌, ◌/◌, ◌-◌, ◌^◌, ◌*◌, sym, ap, arith}
+use Rattle.std.proofs.Common.{◌∙◌, ◌/◌, ◌-◌, ◌^◌, sym, ap}
 use Rattle.std.proofs.Math.Nat.{mod-eq_of_lt}
-use Rattle.souper_words.specs.Numbers.{reversed}
 use Rattle.souper_words.specs.declared.outcome.Outcome.TheVariants.{Number}
 use Rattle.souper_words.proofs.Reversing.{bytes_reversed, bytes-below}
 use Rattle.souper_words.proofs.bitwise.bswap.Goals as goal

@@ -1,5 +1,5 @@
 use Rattle.std.proofs.Common.{◌≡◌, ◌<◌, ◌≤◌, ◌∙◌, ◌+◌, ◌*◌, ◌-◌, ◌/◌, ◌%◌, ◌^◌, ap, sym, arith, bit_or}
-use Rattle.std.proofs.lemmas.Nat.{pow_pos, mod_below}
+use Rattle.std.proofs.lemmas.Nat.{mod_below}
 use Rattle.souper_words.specs.declared.outcome.Outcome.TheVariants.{Number}
 use Rattle.souper_words.proofs.Shifting.{funnel, left_then_right, funnel_left_by_zero}
 use Rattle.souper_words.proofs.shifts.fshl.Goals as goal
