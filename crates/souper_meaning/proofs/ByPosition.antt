@@ -75,7 +75,7 @@ module _ (f g : ℕ → Outcome) where
   rhs_same m x p reserved_const h = refl
   rhs_same m x p (instruction i) h = optional_same (meaning_of i) (result_width m p) (operand_width m p) (choice_at x p) (operands_of i) h
 
-  pub statement_same : (m : WidthMap) (x : World) (p : ℕ) (s : PlainStatement) → Agree f g (uses_of s) → statement_outcome m x p f s ≡ statement_outcome m x p g s
+  statement_same : (m : WidthMap) (x : World) (p : ℕ) (s : PlainStatement) → Agree f g (uses_of s) → statement_outcome m x p f s ≡ statement_outcome m x p g s
   statement_same m x p (assigned a) h = rhs_same m x p a.value h
   statement_same m x p (condition c) h = refl
   statement_same m x p (block_condition c) h = refl

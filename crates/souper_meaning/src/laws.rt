@@ -8,15 +8,15 @@ ghost use Rattle.souper_widths.specs.Maps.{WidthMap};
 ghost use Rattle.souper_graph.specs.WellFormed.{WellFormed};
 ghost use Rattle.souper_meaning.specs.Worlds.{World, Mode, value_inputs, poison_inputs};
 ghost use Rattle.souper_meaning.specs.Sound.{Refines, Sound, Vacuous};
-ghost use Rattle.souper_meaning.specs.Examples.{shifted, shifted_widths, chosen, chosen_widths, divided, divided_widths, world_of, reached_by};
+ghost use Rattle.souper_meaning.specs.Examples.{shifted, shifted_widths, doubled, either, either_widths, thawed, thawed_widths, overflowing, overflowing_widths, divided, divided_widths, contradicted, contradicted_widths, chosen, chosen_widths, world_of, reached_by};
 
 /// An item's outcomes: 1 by -128 is -128, and 1 shifted by 7 is out of signed numbers.
 pub fn law_of_outcomes()
     ensures product { out shifted shifted_widths (world_of (Number 1)) 1 ≡ Number 128 }
     ensures shift { out shifted shifted_widths (world_of (Number 1)) 2 ≡ Poison }
     ensures poison { out shifted shifted_widths (world_of Poison) 1 ≡ Poison }
-    ensures undefined_arm { out divided divided_widths (world_of (Number 0)) 2 ≡ Undefined }
-    ensures defined_arm { out divided divided_widths (world_of (Number 1)) 2 ≡ Number 0 }
+    ensures undefined_arm { out divided divided_widths (world_of (Number 0)) 3 ≡ Undefined }
+    ensures defined_arm { out divided divided_widths (world_of (Number 1)) 3 ≡ Number 0 }
     ensures undefined_operand { out chosen chosen_widths (reached_by 0) 3 ≡ Undefined }
     ensures other_operand { out chosen chosen_widths (reached_by 1) 3 ≡ Number 0 }
 {}
@@ -34,6 +34,21 @@ pub fn law_of_refinement()
     ensures not_poison { ¬ Refines 255 (Number 1) Poison }
     ensures unwanted_bit { Refines 15 (Number 248) (Number 8) }
     ensures wanted_bit { ¬ Refines 15 (Number 9) (Number 8) }
+{}
+
+/// Replacements that are not sound: by an overflow, by poison inputs, by undefined behaviour for poison, by an unchosen arm.
+pub fn law_of_unsound_examples()
+    ensures overflow { ¬ Sound value_inputs shifted shifted_widths }
+    ensures poison_arm { ¬ Sound poison_inputs either either_widths }
+    ensures freeze { ¬ Sound poison_inputs thawed thawed_widths }
+    ensures undefined { ¬ Sound value_inputs overflowing overflowing_widths }
+    ensures undefined_arm { ¬ Sound value_inputs divided divided_widths }
+{}
+
+/// A sound replacement, and one whose facts contradict each other.
+pub fn law_of_sound_examples()
+    ensures doubled { Sound poison_inputs doubled shifted_widths }
+    ensures vacuous { Vacuous value_inputs contradicted contradicted_widths }
 {}
 
 /// What is sound where inputs may be poison is sound where they are values, and so is what is vacuous. What is vacuous is sound.
