@@ -28,7 +28,7 @@ pub struct Widths {
 }
 
 /// What a word gives for numbers; of `select` and `freeze` what they give for numbers too.
-pub fn outcome_of_numbers(word: Word, widths: Widths, a: u128, b: u128, c: u128) -> Outcome
+fn outcome_of_numbers(word: Word, widths: Widths, a: u128, b: u128, c: u128) -> Outcome
     requires result_low { 1 ≤ widths.result }
     requires result_high { widths.result ≤ 128 }
     requires low { 1 ≤ widths.operands }
