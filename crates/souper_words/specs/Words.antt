@@ -1,5 +1,5 @@
 -- Definitions. The meaning of each word: its number, when it is poison, and when it is undefined behaviour.
-use Rattle.std.specs.Prelude.{◌≡◌, ◌≤◌, ℕ, ◌+◌, ◌-◌, ◌*◌, ◌/◌, ◌%◌, ◌^◌, min, Bool, false, not, ◌&&◌, ◌||◌, ◌==◌, nat_lt, nat_le, if◌then◌else◌, ℤ, pos, ◌+ℤ◌, ◌-ℤ◌, ◌*ℤ◌, bit_and, bit_or, bit_xor, count_ones, unsigned_abs, int_lt, int_le, int_div}
+use Rattle.std.specs.Prelude.{◌≡◌, ℕ, ◌+◌, ◌-◌, ◌*◌, ◌/◌, ◌%◌, ◌^◌, min, Bool, false, not, ◌&&◌, ◌||◌, ◌==◌, nat_lt, nat_le, if◌then◌else◌, ℤ, pos, ◌+ℤ◌, ◌-ℤ◌, ◌*ℤ◌, bit_and, bit_or, bit_xor, count_ones, unsigned_abs, int_lt, int_le, int_div}
 use Rattle.std.specs.Int.{saturate_to_bits, int_shr}
 use Rattle.std.specs.Int.Count.{count_leading_zeros, count_trailing_zeros}
 use Rattle.souper_words.specs.declared.outcome.Outcome.{Outcome}
@@ -126,6 +126,6 @@ AreWidths SsubWithOverflow w v = w ≡ v + 1
 AreWidths UsubWithOverflow w v = w ≡ v + 1
 AreWidths SmulWithOverflow w v = w ≡ v + 1
 AreWidths UmulWithOverflow w v = w ≡ v + 1
-AreWidths ExtractValue w v = 2 ≤ v
+AreWidths ExtractValue w v = Unit {0}
 AreWidths Bswap w v = (w ≡ v) × (v % 16 ≡ 0)
 AreWidths x w v = w ≡ v

@@ -1,10 +1,18 @@
 //! Worked examples of the words. No function here does anything.
 
-ghost use Rattle.std.specs.Prelude.{◌≡◌, ◌^◌, ◌-◌};
+ghost use Rattle.std.specs.Prelude.{◌≡◌, ◌^◌, ◌-◌, ◌<◌, ℕ};
 ghost use Rattle.souper_words.specs.declared.outcome.Outcome.TheVariants.{Number, Poison, Undefined};
+ghost use Rattle.souper_words.specs.declared.outcome.Outcome.{Outcome};
+ghost use Rattle.souper_words.specs.declared.words.Word.{Word};
 ghost use Rattle.souper_words.specs.declared.words.Word.TheVariants.{Add, AddNsw, AddNuw, AddNw, Sub, SubNsw, SubNuw, SubNw, Mul, MulNsw, MulNuw, MulNw, Shl, ShlNsw, ShlNuw, ShlNw, Udiv, Sdiv, UdivExact, SdivExact, Urem, Srem, And, Or, Xor, Lshr, LshrExact, Ashr, AshrExact, Zext, Sext, Trunc, Eq, Ne, Ult, Slt, Ule, Sle, Ctpop, Bswap, BitReverse, Cttz, Ctlz, Fshl, Fshr, SaddWithOverflow, UaddWithOverflow, SsubWithOverflow, UsubWithOverflow, SmulWithOverflow, UmulWithOverflow, SaddSat, UaddSat, SsubSat, UsubSat, ExtractValue, Freeze};
-ghost use Rattle.souper_words.specs.Words.{outcome};
+ghost use Rattle.souper_words.specs.Words.{outcome, AreWidths};
+ghost use Rattle.souper_words.specs.Outcomes.{number_or};
 ghost use Rattle.souper_words.specs.Examples.{of_one, of_two, of_three, compared, resized, paired, chosen};
+
+/// The number of an outcome has the bits of the result, if operands have those of operands, and the choice those of the result.
+pub fn law_of_bits_of_outcomes()
+    ensures { (x : Word) (w v choice : ℕ) (a b c : Outcome) → AreWidths x w v → choice < 2 ^ w → number_or 0 a < 2 ^ v → number_or 0 b < 2 ^ v → number_or 0 c < 2 ^ v → number_or 0 (outcome x w v choice a b c) < 2 ^ w }
+{}
 
 /// Sums and differences of 8 bits, where 128 is the least signed number and 255 is -1.
 pub fn law_of_sums()

@@ -14,6 +14,7 @@ mod overflows;
 mod shifts;
 mod words;
 
+pub use bits::signed_bits;
 pub use eval::{Widths, outcome_of};
 pub use outcome::Outcome;
 pub use words::Word;

@@ -148,14 +148,15 @@ pub fn usub_sat(a: u128, b: u128, width: u32) -> Outcome
 pub fn extractvalue(a: u128, b: u128, from: u32, width: u32) -> Outcome
     requires low { 1 ≤ width }
     requires high { width ≤ 128 }
-    requires from_low { 2 ≤ from }
+    requires from_low { 1 ≤ from }
     requires from_high { from ≤ 128 }
     ensures { result ≡ row_outcome width (row ExtractValue width from a b 0) }
 {
-    let part = if b == 0 {
-        low_bits(a, from - 1)
-    } else {
-        a >> (from - 1)
-    };
-    Outcome::Number(low_bits(part, width))
+    if b != 0 {
+        return Outcome::Number(low_bits(a >> (from - 1), width));
+    }
+    if from == 1 {
+        return Outcome::Number(0);
+    }
+    Outcome::Number(low_bits(low_bits(a, from - 1), width))
 }
