@@ -7,7 +7,7 @@ use Rattle.souper_graph.specs.declared.ast.operands.Operand.{Operand}
 use Rattle.souper_graph.specs.declared.ast.operands.Operand.TheVariants.{Value, Constant}
 use Rattle.souper_graph.specs.Values.{PlainRhs, var, block, phi, reserved_inst, reserved_const, instruction, PlainStatement, assigned, condition, block_condition, Item}
 use Rattle.souper_graph.specs.Instructions.{operands_of}
-use Rattle.souper_graph.specs.Uses.{Has, Use, value_use, position_of, uses_of_operand, uses_of_operands, uses_of_rhs, uses_of, NeededIn}
+use Rattle.souper_graph.specs.Uses.{Has, Use, value_use, position_of, uses_of_operand, uses_of_operands, uses_of_rhs, uses_of}
 use Rattle.souper_graph.specs.WellFormed.{WellFormed}
 use Rattle.souper_widths.specs.Maps.{WidthMap, result_width, operand_width}
 use Rattle.souper_words.specs.declared.outcome.Outcome.{Outcome}
@@ -16,7 +16,7 @@ use Rattle.souper_words.specs.declared.words.Word.{Word}
 use Rattle.souper_words.specs.Words.{outcome}
 use Rattle.souper_meaning.specs.Worlds.{World, predecessor_at, choice_at}
 use Rattle.souper_meaning.specs.Instructions.{meaning_of, operand_outcome, first_width, second_width, word_outcome, optional_word_outcome}
-use Rattle.souper_meaning.specs.Statements.{executed_outcome, rhs_outcome, statement_outcome, outcome_in, outcomes_from, out, IsByStatement}
+use Rattle.souper_meaning.specs.Statements.{executed_outcome, rhs_outcome, statement_outcome, outcome_in, outcomes_from, IsByStatement}
 
 has-left : (xs ys : List Use) (u : Use) → Has xs u → Has (xs ++ ys) u
 has-left [] ys u h = absurd h

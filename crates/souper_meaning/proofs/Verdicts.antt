@@ -1,13 +1,13 @@
 -- Worked examples of sound, unsound and vacuous items.
-use Rattle.std.proofs.Common.{◌≡◌, ℕ, zero, suc, ◌+◌, ◌-◌, ◌%◌, ◌^◌, ◌<◌, ◌≤◌, [], ◌∷◌, slice_get, refl, arith, inl, inr, lit<, pos}
+use Rattle.std.proofs.Common.{◌≡◌, ℕ, zero, suc, ◌+◌, ◌%◌, ◌<◌, ◌≤◌, [], ◌∷◌, slice_get, refl, arith, inl, inr, lit<, pos}
 use Rattle.souper_graph.specs.Values.{negative, range, Item}
 use Rattle.souper_graph.specs.Uses.{NeededIn, walked, used}
 use Rattle.souper_widths.specs.Maps.{WidthMap, result_width, operand_width}
 use Rattle.souper_words.specs.declared.outcome.Outcome.{Outcome}
 use Rattle.souper_words.specs.declared.outcome.Outcome.TheVariants.{Number, Poison, Undefined}
-use Rattle.souper_meaning.specs.Worlds.{World, value_at, Mode, value_inputs, poison_inputs, IsInput, GivesStatement, IsWorld}
+use Rattle.souper_meaning.specs.Worlds.{World, value_at, Mode, value_inputs, poison_inputs, IsInput, GivesStatement}
 use Rattle.souper_meaning.specs.Statements.{out}
-use Rattle.souper_meaning.specs.Sound.{MeetsStatement, MeetsFacts, Meets, Refines, RefinesEnding, Sound, Vacuous}
+use Rattle.souper_meaning.specs.Sound.{MeetsStatement, MeetsFacts, RefinesEnding, Sound, Vacuous}
 use Rattle.souper_meaning.specs.Examples.{shifted, shifted_widths, doubled, either, either_widths, thawed, thawed_widths, overflowing, overflowing_widths, divided, divided_widths, contradicted, contradicted_widths, world_of, world_of_two}
 
 -- at every position, needed or not

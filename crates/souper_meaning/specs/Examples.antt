@@ -1,6 +1,5 @@
 -- Definitions. Worked examples: items with their widths, and worlds.
-use Rattle.std.specs.Prelude.{ℕ, pos, negsuc, [], ◌∷◌, Option, Some, None, codes}
-use Rattle.souper_graph.specs.declared.ast.operands.Operand.{Operand}
+use Rattle.std.specs.Prelude.{ℕ, pos, negsuc, [], ◌∷◌, None, codes}
 use Rattle.souper_graph.specs.declared.ast.operands.Operand.TheVariants.{Value, Constant}
 use Rattle.souper_graph.specs.declared.ast.instructions.Instruction.TheVariants.{AddNsw, Mul, MulNsw, Udiv, And, Or, Shl, ShlNsw, Select, Freeze}
 use Rattle.souper_graph.specs.Values.{negative, range, var, block, phi, assigned, replaced, Item}

@@ -1,9 +1,8 @@
 -- Definitions. When a world meets facts and conditions, when a right side refines a left one, and sound and vacuous items.
-use Rattle.std.specs.Prelude.{◌≡◌, ◌≢◌, ℕ, ◌⊎◌, List, [], Option, Some, None, slice_get, bit_and}
+use Rattle.std.specs.Prelude.{◌≡◌, ◌≢◌, ℕ, ◌⊎◌, List, Option, Some, None, slice_get, bit_and}
 use Rattle.std.specs.List.{AllByRecursion}
 use Rattle.souper_graph.specs.declared.ast.operands.Operand.{Operand}
-use Rattle.souper_graph.specs.declared.ast.operands.Operand.TheVariants.{Value}
-use Rattle.souper_graph.specs.Values.{PlainAttribute, PlainRootAttribute, PlainRhs, var, reserved_inst, reserved_const, PlainAssignment, PlainStatement, assigned, condition, block_condition, Ending, inferred, resulting, replaced, candidate, Item}
+use Rattle.souper_graph.specs.Values.{PlainAttribute, PlainRhs, var, reserved_inst, reserved_const, PlainStatement, assigned, condition, block_condition, Ending, inferred, resulting, replaced, candidate, Item}
 use Rattle.souper_graph.specs.Uses.{NeededIn}
 use Rattle.souper_widths.specs.Maps.{WidthMap, result_width, operand_width}
 use Rattle.souper_words.specs.declared.outcome.Outcome.{Outcome}

@@ -1,12 +1,12 @@
 -- Definitions. Worlds: what one run gives to inputs, blocks and freezes.
-use Rattle.std.specs.Prelude.{◌≡◌, ℕ, ◌^◌, ◌<◌, List, Option, Some, None, slice_get, slice_index, slice_index_or}
-use Rattle.souper_graph.specs.Values.{PlainRhs, var, block, phi, reserved_inst, reserved_const, instruction, PlainStatement, assigned, condition, block_condition, Item}
+use Rattle.std.specs.Prelude.{ℕ, ◌^◌, ◌<◌, List, Option, Some, slice_get, slice_index, slice_index_or}
+use Rattle.souper_graph.specs.Values.{PlainRhs, var, block, phi, reserved_inst, reserved_const, instruction, PlainStatement, assigned, Item}
 use Rattle.souper_graph.specs.declared.ast.instructions.Instruction.{Instruction}
 use Rattle.souper_graph.specs.declared.ast.instructions.Instruction.TheVariants.{Freeze}
 use Rattle.souper_graph.specs.Uses.{NeededIn}
 use Rattle.souper_widths.specs.Maps.{WidthMap, result_width}
 use Rattle.souper_words.specs.declared.outcome.Outcome.{Outcome}
-use Rattle.souper_words.specs.declared.outcome.Outcome.TheVariants.{Number, Poison, Undefined}
+use Rattle.souper_words.specs.declared.outcome.Outcome.TheVariants.{Number, Poison}
 
 -- By position: values of inputs, the predecessor by which a block is reached, and what a freeze of poison gives.
 pub record World : Type 0 where

@@ -1,5 +1,5 @@
 -- Lemmas on the bits of an outcome.
-use Rattle.std.proofs.Common.{◌≡◌, ℕ, ◌+◌, ◌^◌, ◌<◌, Bool, true, false, cond, ◌||◌, eqb, ℤ, sym, ap, arith}
+use Rattle.std.proofs.Common.{ℕ, ◌^◌, ◌<◌, Bool, true, false, cond, ◌||◌, eqb, ℤ}
 use Rattle.std.proofs.lemmas.Nat.{pow_pos}
 use Rattle.souper_words.specs.declared.outcome.Outcome.{Outcome}
 use Rattle.souper_words.specs.declared.outcome.Outcome.TheVariants.{Number, Poison, Undefined}
