@@ -1,0 +1,3 @@
+pub mod ByPosition
+pub mod Modes
+pub mod Verdicts

@@ -1,0 +1,116 @@
+-- Worked examples of sound, unsound and vacuous items.
+use Rattle.std.proofs.Common.{◌≡◌, ℕ, zero, suc, ◌+◌, ◌%◌, ◌<◌, ◌≤◌, [], ◌∷◌, slice_get, refl, arith, inl, inr, lit<, pos}
+use Rattle.souper_graph.specs.Values.{negative, range, Item}
+use Rattle.souper_graph.specs.Uses.{NeededIn, walked, used}
+use Rattle.souper_widths.specs.Maps.{WidthMap, result_width, operand_width}
+use Rattle.souper_words.specs.declared.outcome.Outcome.{Outcome}
+use Rattle.souper_words.specs.declared.outcome.Outcome.TheVariants.{Number, Poison, Undefined}
+use Rattle.souper_meaning.specs.Worlds.{World, value_at, Mode, value_inputs, poison_inputs, IsInput, GivesStatement}
+use Rattle.souper_meaning.specs.Statements.{out}
+use Rattle.souper_meaning.specs.Sound.{MeetsStatement, MeetsFacts, RefinesEnding, Sound, Vacuous}
+use Rattle.souper_meaning.specs.Examples.{shifted, shifted_widths, doubled, either, either_widths, thawed, thawed_widths, overflowing, overflowing_widths, divided, divided_widths, contradicted, contradicted_widths, world_of, world_of_two}
+
+-- at every position, needed or not
+abbrev GivesAt : Mode → Item → WidthMap → World → ℕ → Type 0
+GivesAt mode a m x p = GivesStatement mode (result_width m p) x p (slice_get a.statements p)
+
+abbrev MeetsAt : Item → WidthMap → World → ℕ → Type 0
+MeetsAt a m x p = MeetsStatement (result_width m p) (operand_width m p) x (out a m x) p (slice_get a.statements p)
+
+shifted_gives : (p : ℕ) → GivesAt value_inputs shifted shifted_widths (world_of (Number 1)) p
+shifted_gives zero = lit< tt
+shifted_gives (suc zero) = tt
+shifted_gives (suc (suc zero)) = tt
+shifted_gives (suc (suc (suc p))) = tt
+
+shifted_meets : (p : ℕ) → MeetsAt shifted shifted_widths (world_of (Number 1)) p
+shifted_meets zero = tt
+shifted_meets (suc zero) = tt
+shifted_meets (suc (suc zero)) = tt
+shifted_meets (suc (suc (suc p))) = tt
+
+pub shifted-unsound : ¬ Sound value_inputs shifted shifted_widths
+shifted-unsound s = s (world_of (Number 1)) (λ p n. shifted_gives p) (λ p n. shifted_meets p)
+
+either_gives : (p : ℕ) → GivesAt poison_inputs either either_widths (world_of_two (Number 1) Poison) p
+either_gives zero = lit< tt
+either_gives (suc zero) = tt
+either_gives (suc (suc zero)) = tt
+either_gives (suc (suc (suc zero))) = tt
+either_gives (suc (suc (suc (suc p)))) = tt
+
+either_meets : (p : ℕ) → MeetsAt either either_widths (world_of_two (Number 1) Poison) p
+either_meets zero = tt
+either_meets (suc zero) = tt
+either_meets (suc (suc zero)) = tt
+either_meets (suc (suc (suc zero))) = tt
+either_meets (suc (suc (suc (suc p)))) = tt
+
+pub either-unsound : ¬ Sound poison_inputs either either_widths
+either-unsound s = s (world_of_two (Number 1) Poison) (λ p n. either_gives p) (λ p n. either_meets p)
+
+thawed_gives : (p : ℕ) → GivesAt poison_inputs thawed thawed_widths (world_of Poison) p
+thawed_gives zero = tt
+thawed_gives (suc zero) = lit< tt
+thawed_gives (suc (suc p)) = tt
+
+thawed_meets : (p : ℕ) → MeetsAt thawed thawed_widths (world_of Poison) p
+thawed_meets zero = tt
+thawed_meets (suc zero) = tt
+thawed_meets (suc (suc p)) = tt
+
+pub thawed-unsound : ¬ Sound poison_inputs thawed thawed_widths
+thawed-unsound s = s (world_of Poison) (λ p n. thawed_gives p) (λ p n. thawed_meets p)
+
+overflowing_gives : (p : ℕ) → GivesAt value_inputs overflowing overflowing_widths (world_of (Number 0)) p
+overflowing_gives zero = tt
+overflowing_gives (suc zero) = tt
+overflowing_gives (suc (suc p)) = tt
+
+overflowing_meets : (p : ℕ) → MeetsAt overflowing overflowing_widths (world_of (Number 0)) p
+overflowing_meets zero = tt
+overflowing_meets (suc zero) = tt
+overflowing_meets (suc (suc p)) = tt
+
+pub overflowing-unsound : ¬ Sound value_inputs overflowing overflowing_widths
+overflowing-unsound s = s (world_of (Number 0)) (λ p n. overflowing_gives p) (λ p n. overflowing_meets p)
+
+divided_gives : (p : ℕ) → GivesAt value_inputs divided divided_widths (world_of (Number 0)) p
+divided_gives zero = lit< tt
+divided_gives (suc zero) = tt
+divided_gives (suc (suc zero)) = tt
+divided_gives (suc (suc (suc zero))) = tt
+divided_gives (suc (suc (suc (suc p)))) = tt
+
+divided_meets : (p : ℕ) → MeetsAt divided divided_widths (world_of (Number 0)) p
+divided_meets zero = tt
+divided_meets (suc zero) = tt
+divided_meets (suc (suc zero)) = tt
+divided_meets (suc (suc (suc zero))) = tt
+divided_meets (suc (suc (suc (suc p)))) = tt
+
+pub divided-unsound : ¬ Sound value_inputs divided divided_widths
+divided-unsound s = s (world_of (Number 0)) (λ p n. divided_gives p) (λ p n. divided_meets p)
+
+-- the right side for each outcome of the input
+doubled_refines : (x : World) (o : Outcome) → value_at x 0 ≡ o → IsInput poison_inputs 8 o → RefinesEnding shifted_widths (out doubled shifted_widths x) doubled.ending
+doubled_refines x (Number n) e h = rw e refl
+doubled_refines x Poison e h = rw e tt
+doubled_refines x Undefined e h = absurd h
+
+doubled_input : NeededIn doubled 0
+doubled_input = used (walked (inl refl)) (inl refl)
+
+pub doubled-sound : Sound poison_inputs doubled shifted_widths
+doubled-sound x w h = doubled_refines x (value_at x 0) refl (w 0 doubled_input)
+
+below_and_above : (n : ℕ) → (n + 255) % 256 < 9 → 128 ≤ n → n < 256 → ⊥
+below_and_above n h k l = omega arith
+
+contradicted_by : (o : Outcome) → IsInput value_inputs 8 o → MeetsFacts 8 o (range (pos 1) (pos 10) ∷ negative ∷ []) → ⊥
+contradicted_by (Number n) h f = elim f.0 [ inl e ↦ absurd (omega (arith, e.0)) | inr l ↦ below_and_above n l f.1.0 h ]
+contradicted_by Poison h f = h
+contradicted_by Undefined h f = h
+
+pub contradicted-vacuous : Vacuous value_inputs contradicted contradicted_widths
+contradicted-vacuous x w h = contradicted_by (value_at x 0) (w 0 (walked (inl refl))) (h 0 (walked (inl refl)))
