@@ -28,7 +28,7 @@ fn color_arg<'a>(alloc: Global) -> Arg<'a> {
 }
 
 fn quiet_arg<'a>(alloc: Global) -> Arg<'a> {
-    arg!(in alloc; -q --quiet "Show no progress at a terminal")
+    arg!(in alloc; -q --quiet "Show no progress, and nothing of what is lost")
 }
 
 fn json_arg(json: Arg<'_>) -> Result<Arg<'_>, AllocError> {
@@ -57,7 +57,7 @@ fn format<'a>(alloc: Global) -> Result<Command<'a>, AllocError> {
         "line-buffered",
     ];
     let json = arg!(in alloc; --json "Write a line of JSON for each item and each parse error");
-    let write = arg!(in alloc; -w --write "Rewrite each file by its canonical text");
+    let write = arg!(in alloc; -w --write "Rewrite each file; comments and unused values are lost");
     let force = arg!(in alloc; --force "Rewrite write-protected files too");
     writer(alloc, "format")?
         .about("Writes the record of each item: its canonical text")

@@ -3,14 +3,18 @@
 
 mod differ;
 mod hint;
+mod losses;
 mod options;
 mod rewrite;
+mod same_file;
 
 use clap::ArgMatches;
 use differ::check_diff;
 use hint::hint;
+use losses::say_would_be_lost;
 use options::{Action, Color, Task, read_task};
-use rewrite::rewrite;
+use rewrite::{Rewriting, rewrite};
+use same_file::{FileId, file_id};
 use souper_cli::commands::grammar;
 use souper_cli::excerpt::Style;
 use souper_cli::progress::{Meter, Metered};
@@ -75,6 +79,9 @@ struct Session<'s, W, E> {
 
     // Whether a parse error was shown.
     is_refused: &'s Cell<bool>,
+
+    // The file of standard output, if it is written while files are read.
+    output: Option<FileId>,
 }
 
 // Each method returns a status of the program.
@@ -136,7 +143,20 @@ impl<'s, W: Write, E: Write> Session<'s, W, E> {
         }
     }
 
+    // Reports an input that is the output, which would grow while it is read.
+    fn is_output(&mut self, name: &str, path: &str) -> bool {
+        if self.output.is_none() || file_id(self.rt, path) != self.output {
+            return false;
+        }
+        let fault = io::Error::new(ErrorKind::InvalidInput, "input file is output file");
+        failed(self.rt.alloc(), name, &fault, &mut self.err);
+        true
+    }
+
     fn standard_input(&mut self, meter: &mut Meter<'s>) -> u8 {
+        if self.is_output(STANDARD_INPUT, "/dev/stdin") {
+            return 2;
+        }
         meter.begin(STANDARD_INPUT, None);
         let reader = self.rt.stdin();
         match BufReader::with_capacity(self.rt.alloc(), CAPACITY, Metered { reader, meter }) {
@@ -147,10 +167,15 @@ impl<'s, W: Write, E: Write> Session<'s, W, E> {
 
     fn rewrite(&mut self, rename: bool, force: bool, meter: &mut Meter<'s>, path: &str) -> u8 {
         let (rt, err) = (self.rt, &mut self.err);
+        let how = Rewriting {
+            rename,
+            force,
+            quiet: self.task.quiet,
+        };
         match self.task.kind {
-            Kind::Lhs => rewrite::<LeftHandSide, E>(rt, rename, force, meter, path, err),
-            Kind::Rhs => rewrite::<RightHandSide, E>(rt, rename, force, meter, path, err),
-            Kind::Rep => rewrite::<Replacement, E>(rt, rename, force, meter, path, err),
+            Kind::Lhs => rewrite::<LeftHandSide, E>(rt, how, meter, path, err),
+            Kind::Rhs => rewrite::<RightHandSide, E>(rt, how, meter, path, err),
+            Kind::Rep => rewrite::<Replacement, E>(rt, how, meter, path, err),
         }
     }
 
@@ -158,6 +183,9 @@ impl<'s, W: Write, E: Write> Session<'s, W, E> {
     fn file(&mut self, meter: &mut Meter<'s>, path: &'s str) -> u8 {
         if path == "-" {
             return self.standard_input(meter);
+        }
+        if self.is_output(path, path) {
+            return 2;
         }
         self.begin(meter, path);
         let status = match self.task.action {
@@ -168,7 +196,20 @@ impl<'s, W: Write, E: Write> Session<'s, W, E> {
             },
         };
         self.end(self.task.kind, path);
+        self.end_check(status, path);
         status
+    }
+
+    // What `format --write` would not write of a file that is valid and not canonical.
+    fn end_check(&mut self, status: u8, path: &str) {
+        if matches!(self.task.action, Action::Check { .. })
+            && status == 1
+            && !self.task.quiet
+            && !self.is_refused.get()
+            && len_of(self.rt, path).is_some()
+        {
+            say_would_be_lost(self.rt, self.task.kind, path, &mut self.err);
+        }
     }
 
     fn begin(&self, meter: &mut Meter<'s>, path: &'s str) {
@@ -301,6 +342,11 @@ fn run_matches(rt: &HostRuntime, matches: &ArgMatches<'_>) -> u8 {
         out: Watched::new(rt.stdout()),
         err,
         is_refused: &is_refused,
+        output: if task.action.is_silent() {
+            None
+        } else {
+            file_id(rt, "/dev/stdout")
+        },
     }
     .run(&is_shown)
 }
