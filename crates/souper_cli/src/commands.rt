@@ -9,8 +9,8 @@ Status: 0, done; 1, a file is invalid or not canonical; 2, usage, I/O or memory;
 `souper_items COMMAND --help` has the options of a command.";
 
 fn kind_arg<'a>(alloc: Global) -> Arg<'a> {
-    arg!(in alloc; <KIND> "lhs (left-hand sides), rhs (right-hand sides) or rep (replacements)")
-        .value_parser(["lhs", "rhs", "rep"].as_slice())
+    arg!(in alloc; <KIND> "lhs, rhs, rep (replacements), or auto: as each file's suffix says")
+        .value_parser(["lhs", "rhs", "rep", "auto"].as_slice())
         .hide_possible_values(true)
 }
 
@@ -18,7 +18,7 @@ fn files_arg<'a>(alloc: Global) -> Arg<'a> {
     Arg::new(alloc, "FILE")
         .num_args(0..)
         .action(ArgAction::Append)
-        .help("The files; without any, or for `-`, standard input")
+        .help("Files and folders; without any, or for `-`, standard input")
 }
 
 fn color_arg<'a>(alloc: Global) -> Arg<'a> {
@@ -104,10 +104,12 @@ fn find<'a>(alloc: Global) -> Result<Command<'a>, AllocError> {
 }
 
 fn check<'a>(alloc: Global) -> Result<Command<'a>, AllocError> {
+    let list = arg!(in alloc; -l --list "Write only the names of files that are not canonical");
     Command::new(alloc, "check")
         .about("Says which files are not canonical, and the first line that is not")
         .after_help("Example: souper_items check --diff lhs *.lhs | patch -p1")
         .arg(arg!(in alloc; --diff "Write what would change, as a unified diff"))?
+        .arg(list.conflicts_with("diff")?)?
         .arg(color_arg(alloc))?
         .arg(quiet_arg(alloc))?
         .arg(kind_arg(alloc))?

@@ -2,6 +2,7 @@
 #![tactic(auto)]
 
 mod differ;
+mod folders;
 mod hint;
 mod losses;
 mod options;
@@ -9,7 +10,8 @@ mod rewrite;
 mod same_file;
 
 use clap::ArgMatches;
-use differ::check_diff;
+use differ::{check_diff, check_list};
+use folders::{expand, kind_of_name};
 use hint::hint;
 use losses::say_would_be_lost;
 use options::{Action, Color, Task, read_task};
@@ -36,7 +38,7 @@ use souper_records::run::{
 };
 use souper_records::seen::Seen;
 use souper_stream::StreamItem;
-use std::alloc::Global;
+use std::alloc::{AllocError, Global};
 use std::cell::Cell;
 use std::env::{Env, FillError};
 use std::fs::File;
@@ -115,11 +117,12 @@ impl<'s, W: Write, E: Write> Session<'s, W, E> {
             }
             Action::Check { diff: false } => check_run::<T, R, E>(alloc, reader, name, err),
             Action::Check { diff: true } => check_diff::<T, R, W, E>(alloc, reader, name, out, err),
+            Action::List => check_list::<T, R, W, E>(alloc, reader, name, out, err),
             Action::Write { .. } | Action::Find { .. } | Action::Keyed(_) => 2,
         }
     }
 
-    fn stream<R: BufRead>(&mut self, reader: &mut R, name: &str) -> u8 {
+    fn stream<R: BufRead>(&mut self, kind: Kind, reader: &mut R, name: &str) -> u8 {
         let alloc = self.rt.alloc();
         let options = ReadOptions {
             name,
@@ -127,7 +130,7 @@ impl<'s, W: Write, E: Write> Session<'s, W, E> {
             line_buffered: self.task.line_buffered,
         };
         let (store, out, err) = (&self.store, &mut self.out, &mut self.err);
-        match (self.task.action, self.task.kind) {
+        match (self.task.action, kind) {
             (Action::Find { choice, output }, _) => {
                 let search = Search {
                     store,
@@ -154,25 +157,29 @@ impl<'s, W: Write, E: Write> Session<'s, W, E> {
     }
 
     fn standard_input(&mut self, meter: &mut Meter<'s>) -> u8 {
+        let Some(kind) = self.task.kind else {
+            return 2;
+        };
         if self.is_output(STANDARD_INPUT, "/dev/stdin") {
             return 2;
         }
         meter.begin(STANDARD_INPUT, None);
         let reader = self.rt.stdin();
         match BufReader::with_capacity(self.rt.alloc(), CAPACITY, Metered { reader, meter }) {
-            Ok(mut reader) => self.stream(&mut reader, STANDARD_INPUT),
+            Ok(mut reader) => self.stream(kind, &mut reader, STANDARD_INPUT),
             Err(_) => out_of_memory(&mut self.err),
         }
     }
 
-    fn rewrite(&mut self, rename: bool, force: bool, meter: &mut Meter<'s>, path: &str) -> u8 {
+    fn rewrite(
+        &mut self,
+        kind: Kind,
+        how: Rewriting,
+        meter: &mut Meter<'s>,
+        path: &str,
+    ) -> u8 {
         let (rt, err) = (self.rt, &mut self.err);
-        let how = Rewriting {
-            rename,
-            force,
-            quiet: self.task.quiet,
-        };
-        match self.task.kind {
+        match kind {
             Kind::Lhs => rewrite::<LeftHandSide, E>(rt, how, meter, path, err),
             Kind::Rhs => rewrite::<RightHandSide, E>(rt, how, meter, path, err),
             Kind::Rep => rewrite::<Replacement, E>(rt, how, meter, path, err),
@@ -187,28 +194,43 @@ impl<'s, W: Write, E: Write> Session<'s, W, E> {
         if self.is_output(path, path) {
             return 2;
         }
-        self.begin(meter, path);
-        let status = match self.task.action {
-            Action::Write { rename, force } => self.rewrite(rename, force, meter, path),
-            _ => match open(self.rt, meter, path) {
-                Ok(mut reader) => self.stream(&mut reader, path),
-                Err(fault) => failed(self.rt.alloc(), path, &fault, &mut self.err),
-            },
+        let Some(kind) = self.task.kind.or(kind_of_name(path)) else {
+            let says = "its name ends in none of .lhs, .rhs and .rep";
+            let fault = io::Error::new(ErrorKind::InvalidInput, says);
+            return failed(self.rt.alloc(), path, &fault, &mut self.err);
         };
-        self.end(self.task.kind, path);
-        self.end_check(status, path);
+        self.begin(meter, path);
+        let status = self.read(kind, meter, path);
+        self.end(kind, path);
+        self.end_check(kind, status, path);
         status
     }
 
+    fn read(&mut self, kind: Kind, meter: &mut Meter<'s>, path: &str) -> u8 {
+        if let Action::Write { rename, force } = self.task.action {
+            let quiet = self.task.quiet;
+            let how = Rewriting {
+                rename,
+                force,
+                quiet,
+            };
+            return self.rewrite(kind, how, meter, path);
+        }
+        match open(self.rt, meter, path) {
+            Ok(mut reader) => self.stream(kind, &mut reader, path),
+            Err(fault) => failed(self.rt.alloc(), path, &fault, &mut self.err),
+        }
+    }
+
     // What `format --write` would not write of a file that is valid and not canonical.
-    fn end_check(&mut self, status: u8, path: &str) {
+    fn end_check(&mut self, kind: Kind, status: u8, path: &str) {
         if matches!(self.task.action, Action::Check { .. })
             && status == 1
             && !self.task.quiet
             && !self.is_refused.get()
             && len_of(self.rt, path).is_some()
         {
-            say_would_be_lost(self.rt, self.task.kind, path, &mut self.err);
+            say_would_be_lost(self.rt, kind, path, &mut self.err);
         }
     }
 
@@ -317,6 +339,50 @@ fn seed(rt: &HostRuntime) -> Seed {
     RandomState::new(rt).map_or(Seed::fixed(), Seed::new)
 }
 
+fn paths_of(alloc: Global, files: &[String]) -> Result<Vec<&str>, AllocError> {
+    let mut paths = Vec::with_capacity(alloc, files.len())?;
+    for file in files {
+        paths.push(file.as_str())?;
+    }
+    Ok(paths)
+}
+
+// Does the task, and returns the status.
+fn run_task<E: Write + Drop>(
+    rt: &HostRuntime,
+    task: Task<'_, '_>,
+    is_shown: &Cell<bool>,
+    is_refused: &Cell<bool>,
+    mut err: Watched<E>,
+) -> u8 {
+    let files = match expand(rt, task.kind, task.files, &mut err) {
+        Ok(files) => files,
+        Err(status) => return status,
+    };
+    let Ok(paths) = paths_of(rt.alloc(), &files) else {
+        return out_of_memory(&mut err);
+    };
+    let files = paths.as_slice();
+    let task = Task { files, ..task };
+    let output = if task.action.is_silent() {
+        None
+    } else {
+        file_id(rt, "/dev/stdout")
+    };
+    let seed = seed(rt);
+    Session {
+        rt,
+        task: &task,
+        seen: Seen::with_seed(rt.alloc(), seed),
+        store: Store::with_seed(rt.alloc(), seed),
+        out: Watched::new(rt.stdout()),
+        err,
+        is_refused,
+        output,
+    }
+    .run(is_shown)
+}
+
 // Does what the matches ask for, and returns the status.
 fn run_matches(rt: &HostRuntime, matches: &ArgMatches<'_>) -> u8 {
     let Some(task) = read_task(matches) else {
@@ -333,22 +399,7 @@ fn run_matches(rt: &HostRuntime, matches: &ArgMatches<'_>) -> u8 {
         let _ = writeln!(err, "error: {fault}");
         return 2;
     }
-    let seed = seed(rt);
-    Session {
-        rt,
-        task: &task,
-        seen: Seen::with_seed(rt.alloc(), seed),
-        store: Store::with_seed(rt.alloc(), seed),
-        out: Watched::new(rt.stdout()),
-        err,
-        is_refused: &is_refused,
-        output: if task.action.is_silent() {
-            None
-        } else {
-            file_id(rt, "/dev/stdout")
-        },
-    }
-    .run(&is_shown)
+    run_task(rt, task, &is_shown, &is_refused, err)
 }
 
 // The longest path of Linux, in bytes.
