@@ -20,7 +20,7 @@ impl<T: WholeItem + Drop> Sink<T> for Definitions {
     ghost holds = { λ first definitions items. Unit {0} };
 
     fn take(&mut self, item: T) -> Result<(), AllocError> {
-        for statement in item.statements().iter() {
+        for (_id, statement) in item.statements().iter() {
             if statement.as_assignment().is_some() {
                 self.count = self.count.saturating_add(1);
             }
@@ -122,7 +122,11 @@ pub(crate) fn say_lost<T: WholeItem + Drop, E: Write>(
 ) {
     if let Ok(losses) = losses_of::<T>(alloc, source, text) {
         let is_one = losses.comments.saturating_add(losses.definitions) == 1;
-        let verb = if is_one { "was not written" } else { "were not written" };
+        let verb = if is_one {
+            "was not written"
+        } else {
+            "were not written"
+        };
         say(alloc, name, losses, verb, err);
     }
 }

@@ -171,13 +171,7 @@ impl<'s, W: Write, E: Write> Session<'s, W, E> {
         }
     }
 
-    fn rewrite(
-        &mut self,
-        kind: Kind,
-        how: Rewriting,
-        meter: &mut Meter<'s>,
-        path: &str,
-    ) -> u8 {
+    fn rewrite(&mut self, kind: Kind, how: Rewriting, meter: &mut Meter<'s>, path: &str) -> u8 {
         let (rt, err) = (self.rt, &mut self.err);
         match kind {
             Kind::Lhs => rewrite::<LeftHandSide, E>(rt, how, meter, path, err),
