@@ -39,6 +39,7 @@ fn json_arg(json: Arg<'_>) -> Result<Arg<'_>, AllocError> {
 fn writer<'a>(alloc: Global, name: &'a str) -> Result<Command<'a>, AllocError> {
     Command::new(alloc, name)
         .arg(arg!(in alloc; -z --null "End each record with a NUL character instead"))?
+        .arg(arg!(in alloc; -'0' --"null-data" "Read a NUL character as a newline, as after -z"))?
         .arg(arg!(in alloc; --key "Begin each record with a comment: the SHA-256 of its text"))?
         .arg(arg!(in alloc; --rename "Name the values %0, %1, .. in printed order"))?
         .arg(arg!(in alloc; -k --"keep-going" "Go on after an invalid item; the status is then 1"))?
@@ -51,6 +52,7 @@ fn format<'a>(alloc: Global) -> Result<Command<'a>, AllocError> {
     let others = [
         "lhs-key",
         "null",
+        "null-data",
         "key",
         "json",
         "keep-going",

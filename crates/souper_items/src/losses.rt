@@ -3,80 +3,106 @@
 use souper_format::command::Kind;
 use souper_format::watched::Watched;
 use souper_ir::ast::{Item, LeftHandSide, Replacement, RightHandSide};
-use souper_ir::parse::{ParseError, Sink, WholeItem, parse_into};
-use souper_records::layout::PLAIN;
-use souper_records::records::records_of_text;
+use souper_ir::parse::{ParseError, Sink, WholeItem};
+use souper_records::options::ReadOptions;
+use souper_records::parts::{Part, PartSink, Source, write_parts};
+use souper_records::stop::Stop;
+use souper_stream::{ChunkSink, StreamItem};
 use std::alloc::{AllocError, Global};
-use std::fs;
-use std::io::Write;
+use std::fs::File;
+use std::io;
+use std::io::{BufRead, BufReader, Write};
 
-// Counts the definitions of the items that it takes.
+// Comments and definitions of a text that its canonical text does not have.
 #[derive(Drop)]
-struct Definitions {
-    count: usize,
+struct Losses {
+    comments: usize,
+    definitions: usize,
+
+    // The definitions of the items that were taken, until their part is whole.
+    taken: usize,
 }
 
-impl<T: WholeItem + Drop> Sink<T> for Definitions {
-    ghost holds = { λ first definitions items. Unit {0} };
+// How many statements of the item nothing needs. They are definitions, since each path condition is needed.
+fn unneeded<T: Item>(item: &T) -> Result<usize, AllocError> {
+    match item.print_order() {
+        Ok(order) => Ok(item.statements().len().saturating_sub(order.ids.len())),
+        // An item that was read has no bad id, so memory ran out.
+        Err(_) => Err(AllocError),
+    }
+}
+
+// A comment goes from the first semicolon of a line to its end, since no token has a semicolon.
+fn comments_in(text: &[u8]) -> usize {
+    let mut count = 0usize;
+    let mut is_comment = false;
+    for byte in text {
+        if *byte == b';' && !is_comment {
+            count = count.saturating_add(1);
+        }
+        is_comment = *byte != b'\n' && (is_comment || *byte == b';');
+    }
+    count
+}
+
+impl<T: WholeItem + Drop> Sink<T> for Losses {
+    ghost holds = { λ first losses items. Unit {0} };
 
     fn take(&mut self, item: T) -> Result<(), AllocError> {
-        for (_id, statement) in item.statements().iter() {
-            if statement.as_assignment().is_some() {
-                self.count = self.count.saturating_add(1);
-            }
-        }
+        self.taken = self.taken.saturating_add(unneeded(&item)?);
         Ok(())
     }
 }
 
-fn definitions_of<T: WholeItem + Drop>(alloc: Global, source: &str) -> Result<usize, ParseError> {
-    let mut definitions = Definitions { count: 0 };
-    parse_into::<T, Definitions>(alloc, source, None, &mut definitions)?;
-    Ok(definitions.count)
-}
-
-// The lines of a canonical text that begin with a name.
-fn definitions_in(text: &str) -> usize {
-    let mut count = 0usize;
-    let mut begins = true;
-    for byte in text.bytes() {
-        if begins && byte == b'%' {
-            count = count.saturating_add(1);
-        }
-        begins = byte == b'\n';
+impl<T: WholeItem + Drop> ChunkSink<T> for Losses {
+    fn rollback(&mut self) {
+        self.taken = 0;
     }
-    count
 }
 
-// A comment goes from the first semicolon of a line to its end, since no token has a semicolon.
-fn comments_in(text: &str) -> usize {
-    let mut count = 0usize;
-    let mut is_comment = false;
-    for byte in text.bytes() {
-        if byte == b';' && !is_comment {
-            count = count.saturating_add(1);
-        }
-        is_comment = byte != b'\n' && (is_comment || byte == b';');
+// Nothing is written.
+impl<T: StreamItem + Drop> PartSink<T> for Losses {
+    ghost wrote = { λ name a x b y os. Unit {0} };
+
+    fn write_part<W: Write>(
+        &mut self,
+        _alloc: Global,
+        part: Part<'_>,
+        _refusal: Option<&ParseError>,
+        _out: &mut Watched<W>,
+    ) -> Result<(), Stop> {
+        self.comments = self.comments.saturating_add(comments_in(part.text));
+        self.definitions = self.definitions.saturating_add(self.taken);
+        self.taken = 0;
+        Ok(())
     }
-    count
 }
 
-// Comments and definitions of a text that its canonical text does not have.
-#[derive(Clone, Copy)]
-struct Losses {
-    comments: usize,
-    definitions: usize,
-}
-
-fn losses_of<T: WholeItem + Drop>(
-    alloc: Global,
-    source: &str,
-    text: &str,
-) -> Result<Losses, ParseError> {
-    Ok(Losses {
-        comments: comments_in(source),
-        definitions: definitions_of::<T>(alloc, source)?.saturating_sub(definitions_in(text)),
-    })
+// Those of a text, or none if it is invalid or was not read.
+fn losses_of<T: StreamItem + Drop, R: BufRead>(alloc: Global, reader: &mut R) -> Option<Losses> {
+    let options = ReadOptions {
+        name: "",
+        recover: false,
+        line_buffered: false,
+    };
+    let mut losses = Losses {
+        comments: 0,
+        definitions: 0,
+        taken: 0,
+    };
+    let (mut out, mut err) = (Watched::new(io::sink()), Watched::new(io::sink()));
+    let source = Source::new(alloc, options);
+    match write_parts::<T, Losses, R, io::Sink, io::Sink>(
+        alloc,
+        source,
+        &mut losses,
+        reader,
+        &mut out,
+        &mut err,
+    ) {
+        Ok(false) => Some(losses),
+        _ => None,
+    }
 }
 
 // The count and the noun.
@@ -88,22 +114,22 @@ fn counted(alloc: Global, count: usize, one: &str, many: &str) -> Result<String,
     }
 }
 
-fn shown(alloc: Global, losses: Losses) -> Result<String, AllocError> {
+fn shown(alloc: Global, losses: &Losses) -> Result<String, AllocError> {
     let comments = counted(alloc, losses.comments, "comment", "comments")?;
     let (one, many) = (
         "definition that nothing uses",
         "definitions that nothing uses",
     );
     let definitions = counted(alloc, losses.definitions, one, many)?;
-    match losses {
-        Losses { definitions: 0, .. } => Ok(comments),
-        Losses { comments: 0, .. } => Ok(definitions),
+    match (losses.comments, losses.definitions) {
+        (_, 0) => Ok(comments),
+        (0, _) => Ok(definitions),
         _ => format!(in alloc; "{comments} and {definitions}"),
     }
 }
 
 // Says nothing if nothing is lost.
-fn say<E: Write>(alloc: Global, name: &str, losses: Losses, verb: &str, err: &mut Watched<E>) {
+fn say<E: Write>(alloc: Global, name: &str, losses: &Losses, verb: &str, err: &mut Watched<E>) {
     if losses.comments == 0 && losses.definitions == 0 {
         return;
     }
@@ -113,27 +139,22 @@ fn say<E: Write>(alloc: Global, name: &str, losses: Losses, verb: &str, err: &mu
 }
 
 /// Says how many comments and unused definitions of the source were not written, when its canonical text was.
-pub(crate) fn say_lost<T: WholeItem + Drop, E: Write>(
+pub(crate) fn say_lost<T: StreamItem + Drop, E: Write>(
     alloc: Global,
     name: &str,
     source: &str,
-    text: &str,
     err: &mut Watched<E>,
 ) {
-    if let Ok(losses) = losses_of::<T>(alloc, source, text) {
+    let mut reader = source.as_bytes();
+    if let Some(losses) = losses_of::<T, &[u8]>(alloc, &mut reader) {
         let is_one = losses.comments.saturating_add(losses.definitions) == 1;
         let verb = if is_one {
             "was not written"
         } else {
             "were not written"
         };
-        say(alloc, name, losses, verb, err);
+        say(alloc, name, &losses, verb, err);
     }
-}
-
-fn losses_by_text<T: WholeItem + Drop>(alloc: Global, source: &str) -> Result<Losses, ParseError> {
-    let text = records_of_text::<T>(alloc, PLAIN, source, None)?;
-    losses_of::<T>(alloc, source, text.as_str())
 }
 
 /// Says how many `format --write` would not write, of a file that is not canonical.
@@ -143,16 +164,19 @@ pub(crate) fn say_would_be_lost<E: Write>(
     path: &str,
     err: &mut Watched<E>,
 ) {
-    let Ok(source) = fs::read_to_string(rt, path) else {
+    let alloc = rt.alloc();
+    let Ok(file) = File::open(rt, path) else {
         return;
     };
-    let (alloc, source) = (rt.alloc(), source.as_str());
-    let losses = match kind {
-        Kind::Lhs => losses_by_text::<LeftHandSide>(alloc, source),
-        Kind::Rhs => losses_by_text::<RightHandSide>(alloc, source),
-        Kind::Rep => losses_by_text::<Replacement>(alloc, source),
+    let Ok(mut reader) = BufReader::new(alloc, file) else {
+        return;
     };
-    if let Ok(losses) = losses {
-        say(alloc, path, losses, "would not be written", err);
+    let losses = match kind {
+        Kind::Lhs => losses_of::<LeftHandSide, BufReader<File>>(alloc, &mut reader),
+        Kind::Rhs => losses_of::<RightHandSide, BufReader<File>>(alloc, &mut reader),
+        Kind::Rep => losses_of::<Replacement, BufReader<File>>(alloc, &mut reader),
+    };
+    if let Some(losses) = losses {
+        say(alloc, path, &losses, "would not be written", err);
     }
 }

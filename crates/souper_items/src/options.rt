@@ -49,6 +49,24 @@ impl Action {
         matches!(self, Action::Uniq(_) | Action::Count(..))
     }
 
+    /// Whether JSON objects are written, and parse errors have such.
+    pub(crate) fn has_objects(self) -> bool {
+        matches!(
+            self,
+            Action::Format(Output::Objects { .. })
+                | Action::Keyed(Output::Objects { .. })
+                | Action::Find {
+                    output: Output::Objects { .. },
+                    ..
+                }
+        )
+    }
+
+    /// Whether the names of the items that are written are by the printed order.
+    pub(crate) fn renames(self) -> bool {
+        matches!(self, Action::Format(output) if output.renames())
+    }
+
     /// Whether nothing is written to standard output while a file is read.
     pub(crate) fn is_silent(self) -> bool {
         matches!(
@@ -72,9 +90,12 @@ pub(crate) struct Task<'m, 'a> {
     /// Whether each item is written once the line after it is there.
     pub(crate) line_buffered: bool,
 
+    /// Whether a NUL character is read as a newline.
+    pub(crate) nul_ends: bool,
+
     pub(crate) color: Color,
 
-    /// Whether no progress is shown.
+    /// Whether neither progress is shown nor what is lost.
     pub(crate) quiet: bool,
 
     /// The paths of the replacements that the store has.
@@ -191,6 +212,7 @@ pub(crate) fn read_task<'m, 'a>(matches: &'m ArgMatches<'a>) -> Option<Task<'m, 
         action: read_action(name, options)?,
         recovers: options.get_flag("keep-going") || options.get_flag("json"),
         line_buffered: options.get_flag("line-buffered"),
+        nul_ends: options.get_flag("null-data"),
         color: read_color(options),
         quiet: options.get_flag("quiet"),
         stores: options.get_strs("in").unwrap_or_default(),

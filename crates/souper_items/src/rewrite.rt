@@ -4,11 +4,11 @@ use crate::losses::say_lost;
 use crate::{failed, out_of_memory};
 use souper_cli::progress::{Meter, Metered};
 use souper_format::watched::Watched;
-use souper_ir::parse::{Before, WholeItem};
+use souper_ir::parse::Before;
 use souper_records::layout::{Layout, PLAIN};
 use souper_records::records::records_of_text;
 use souper_records::report::{report_error, report_not_utf8};
-use souper_stream::not_utf8;
+use souper_stream::{StreamItem, not_utf8};
 use std::alloc::{AllocError, Global};
 use std::fs::{File, Metadata, OpenOptions};
 use std::io::{ErrorKind, Read, Write};
@@ -137,7 +137,7 @@ fn replace<E: Write>(
 /// was not written, and that a file has no item. Returns the status of the program: 0, it has that text, or no item; 1, it is invalid; 2, it
 /// cannot be read or replaced, it is write-protected and `force` is false, it is not UTF-8, or memory ran out. With 1 and 2 it is as before,
 /// and why was reported.
-pub(crate) fn rewrite<T: WholeItem + Drop, E: Write>(
+pub(crate) fn rewrite<T: StreamItem + Drop, E: Write>(
     rt: &HostRuntime,
     how: Rewriting,
     meter: &mut Meter<'_>,
@@ -169,7 +169,7 @@ pub(crate) fn rewrite<T: WholeItem + Drop, E: Write>(
         Ok(text) => {
             let status = replace(rt, name, &target, text.as_str(), err);
             if status == 0 && !how.quiet {
-                say_lost::<T, E>(alloc, name, source, text.as_str(), err);
+                say_lost::<T, E>(alloc, name, source, err);
             }
             status
         }
