@@ -9,7 +9,7 @@ Status: 0, done; 1, a file is invalid or not canonical; 2, usage, I/O or memory;
 `souper_items COMMAND --help` has the options of a command.";
 
 fn kind_arg<'a>(alloc: Global) -> Arg<'a> {
-    arg!(in alloc; <KIND> "lhs, rhs, rep (replacements), or auto: as each file's suffix says")
+    arg!(in alloc; <KIND> "lhs, rhs, rep (replacements), or auto (by suffix)")
         .value_parser(["lhs", "rhs", "rep", "auto"].as_slice())
         .hide_possible_values(true)
 }
@@ -28,7 +28,7 @@ fn color_arg<'a>(alloc: Global) -> Arg<'a> {
 }
 
 fn quiet_arg<'a>(alloc: Global) -> Arg<'a> {
-    arg!(in alloc; -q --quiet "Show no progress, and nothing of what is lost")
+    arg!(in alloc; -q --quiet "Show no progress and no losses")
 }
 
 fn json_arg(json: Arg<'_>) -> Result<Arg<'_>, AllocError> {
@@ -39,7 +39,7 @@ fn json_arg(json: Arg<'_>) -> Result<Arg<'_>, AllocError> {
 fn writer<'a>(alloc: Global, name: &'a str) -> Result<Command<'a>, AllocError> {
     Command::new(alloc, name)
         .arg(arg!(in alloc; -z --null "End each record with a NUL character instead"))?
-        .arg(arg!(in alloc; -'0' --"null-data" "Read a NUL character as a newline, as after -z"))?
+        .arg(arg!(in alloc; -'0' --"null-data" "Read NUL characters as newlines"))?
         .arg(arg!(in alloc; --key "Begin each record with a comment: the SHA-256 of its text"))?
         .arg(arg!(in alloc; --rename "Name the values %0, %1, .. in printed order"))?
         .arg(arg!(in alloc; -k --"keep-going" "Go on after an invalid item; the status is then 1"))?

@@ -102,7 +102,7 @@ impl<'s, W: Write, E: Write> Session<'s, W, E> {
     fn objects<R: BufRead>(&mut self, kind: Kind, options: ReadOptions<'_>, reader: &mut R) -> u8 {
         let (alloc, name) = (self.rt.alloc(), options.name);
         let (rename, store, out) = (self.task.action.renames(), &self.store, &mut self.out);
-        let none = &mut Watched::new(io::sink());
+        let mut none = Watched::new(io::sink());
         let parts = match (self.task.action, kind) {
             (Action::Find { choice, output }, _) => {
                 let search = Search {
@@ -110,17 +110,19 @@ impl<'s, W: Write, E: Write> Session<'s, W, E> {
                     choice,
                     output,
                 };
-                write_answers(alloc, search, options, reader, out, none)
+                write_answers(alloc, search, options, reader, out, &mut none)
             }
-            (Action::Keyed(output), _) => write_keyed(alloc, output, options, reader, out, none),
+            (Action::Keyed(output), _) => write_keyed(
+                alloc, output, options, reader, out, &mut none,
+            ),
             (_, Kind::Lhs) => write_objects::<LeftHandSide, R, W, io::Sink>(
-                alloc, rename, options, reader, out, none,
+                alloc, rename, options, reader, out, &mut none,
             ),
             (_, Kind::Rhs) => write_objects::<RightHandSide, R, W, io::Sink>(
-                alloc, rename, options, reader, out, none,
+                alloc, rename, options, reader, out, &mut none,
             ),
             (_, Kind::Rep) => write_objects::<Replacement, R, W, io::Sink>(
-                alloc, rename, options, reader, out, none,
+                alloc, rename, options, reader, out, &mut none,
             ),
         };
         end_objects(alloc, name, parts, out, &mut self.err)
