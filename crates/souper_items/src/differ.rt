@@ -1,8 +1,10 @@
 //! Which files are not canonical, and what would change in them.
 
+use crate::hint::say_hint;
 use crate::{failed, out_of_memory};
 use souper_diff::unified::unified;
 use souper_format::watched::Watched;
+use souper_hint::Kind;
 use souper_ir::parse::{Before, ParseErrorKind, WholeItem};
 use souper_records::check::check_run;
 use souper_records::layout::PLAIN;
@@ -32,6 +34,7 @@ pub(crate) fn check_diff<T: StreamItem + Drop, R: BufRead, W: Write, E: Write>(
     alloc: Global,
     reader: &mut R,
     name: &str,
+    hints: Option<Kind>,
     out: &mut Watched<W>,
     err: &mut Watched<E>,
 ) -> u8 {
@@ -39,7 +42,7 @@ pub(crate) fn check_diff<T: StreamItem + Drop, R: BufRead, W: Write, E: Write>(
     if let Err(fault) = reader.read_to_end(&mut bytes) {
         return failed(alloc, name, &fault, err);
     }
-    let status = check_run::<T, &[u8], E>(alloc, &mut bytes.as_slice(), name, err);
+    let status = check_run::<T, &[u8], E>(alloc, &mut bytes.as_slice(), name, hints, err);
     if status != 1 {
         return status;
     }
@@ -56,6 +59,7 @@ pub(crate) fn check_diff<T: StreamItem + Drop, R: BufRead, W: Write, E: Write>(
 fn is_canonical<T: WholeItem + Drop, E: Write>(
     alloc: Global,
     name: &str,
+    hints: Option<Kind>,
     bytes: &[u8],
     err: &mut Watched<E>,
 ) -> Result<bool, u8> {
@@ -66,7 +70,11 @@ fn is_canonical<T: WholeItem + Drop, E: Write>(
     };
     match records_of_text::<T>(alloc, PLAIN, source, Some(name)) {
         Ok(text) => Ok(text.as_str() == source),
-        Err(error) => Err(report_error(alloc, name, &error, err)),
+        Err(error) => {
+            let status = report_error(alloc, name, &error, err);
+            say_hint(alloc, hints, source, &error, err);
+            Err(status)
+        }
     }
 }
 
@@ -76,6 +84,7 @@ pub(crate) fn check_list<T: StreamItem + Drop, R: BufRead, W: Write, E: Write>(
     alloc: Global,
     reader: &mut R,
     name: &str,
+    hints: Option<Kind>,
     out: &mut Watched<W>,
     err: &mut Watched<E>,
 ) -> u8 {
@@ -83,7 +92,7 @@ pub(crate) fn check_list<T: StreamItem + Drop, R: BufRead, W: Write, E: Write>(
     if let Err(fault) = reader.read_to_end(&mut bytes) {
         return failed(alloc, name, &fault, err);
     }
-    match is_canonical::<T, E>(alloc, name, &bytes, err) {
+    match is_canonical::<T, E>(alloc, name, hints, &bytes, err) {
         Ok(true) => 0,
         Ok(false) => match writeln!(out, "{name}").and_then(|()| out.flush()) {
             Ok(()) => 1,

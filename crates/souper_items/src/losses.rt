@@ -3,9 +3,10 @@
 use souper_format::command::Kind;
 use souper_format::watched::Watched;
 use souper_ir::ast::{Item, LeftHandSide, Replacement, RightHandSide};
-use souper_ir::parse::{ParseError, Sink, WholeItem};
+use souper_ir::parse::{Sink, WholeItem};
 use souper_records::options::ReadOptions;
 use souper_records::parts::{Part, PartSink, Source, write_parts};
+use souper_records::rejected::Rejected;
 use souper_records::stop::Stop;
 use souper_stream::{ChunkSink, StreamItem};
 use std::alloc::{AllocError, Global};
@@ -68,7 +69,7 @@ impl<T: StreamItem + Drop> PartSink<T> for Losses {
         &mut self,
         _alloc: Global,
         part: Part<'_>,
-        _refusal: Option<&ParseError>,
+        _refusal: Option<Rejected<'_>>,
         _out: &mut Watched<W>,
     ) -> Result<(), Stop> {
         self.comments = self.comments.saturating_add(comments_in(part.text));
@@ -84,6 +85,7 @@ fn losses_of<T: StreamItem + Drop, R: BufRead>(alloc: Global, reader: &mut R) ->
         name: "",
         recover: false,
         line_buffered: false,
+        hints: None,
     };
     let mut losses = Losses {
         comments: 0,

@@ -25,6 +25,7 @@ fn object(
     json!(in alloc; {
         "column": null,
         "file": name,
+        "hint": null,
         "line": number(line),
         "message": message,
         "offset": number(offset)

@@ -1,9 +1,11 @@
 //! Files that are rewritten by their canonical texts.
 
+use crate::hint::say_hint;
 use crate::losses::say_lost;
 use crate::{failed, out_of_memory};
 use souper_cli::progress::{Meter, Metered};
 use souper_format::watched::Watched;
+use souper_hint::Kind;
 use souper_ir::parse::Before;
 use souper_records::layout::{Layout, PLAIN};
 use souper_records::records::records_of_text;
@@ -27,6 +29,9 @@ pub(crate) struct Rewriting {
 
     /// Whether nothing is said of comments and definitions that were not written.
     pub(crate) quiet: bool,
+
+    /// The kind of the items, if hints are shown.
+    pub(crate) hints: Option<Kind>,
 }
 
 // A file that is not a link.
@@ -173,6 +178,10 @@ pub(crate) fn rewrite<T: StreamItem + Drop, E: Write>(
             }
             status
         }
-        Err(error) => report_error(alloc, name, &error, err),
+        Err(error) => {
+            let status = report_error(alloc, name, &error, err);
+            say_hint(alloc, how.hints, source, &error, err);
+            status
+        }
     }
 }

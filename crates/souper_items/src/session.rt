@@ -2,7 +2,7 @@
 
 use crate::differ::{check_diff, check_list};
 use crate::folders::{expand, kind_of_name};
-use crate::hint::hint;
+use crate::hint::{hint, hint_kind};
 use crate::input::Input;
 use crate::losses::say_would_be_lost;
 use crate::objects::end_objects;
@@ -70,7 +70,7 @@ impl<'s, W: Write, E: Write> Session<'s, W, E> {
         options: ReadOptions<'_>,
         reader: &mut R,
     ) -> u8 {
-        let (alloc, name) = (self.rt.alloc(), options.name);
+        let (alloc, name, hints) = (self.rt.alloc(), options.name, options.hints);
         let (seen, out, err) = (&mut self.seen, &mut self.out, &mut self.err);
         match self.task.action {
             Action::Format(Output::Records(layout)) => {
@@ -88,9 +88,13 @@ impl<'s, W: Write, E: Write> Session<'s, W, E> {
                 let mut none = Watched::new(io::sink());
                 uniq_run_with::<T, R, io::Sink, E>(layout, options, seen, reader, &mut none, err)
             }
-            Action::Check { diff: false } => check_run::<T, R, E>(alloc, reader, name, err),
-            Action::Check { diff: true } => check_diff::<T, R, W, E>(alloc, reader, name, out, err),
-            Action::List => check_list::<T, R, W, E>(alloc, reader, name, out, err),
+            Action::Check { diff: false } => {
+                check_run::<T, R, E>(alloc, reader, name, hints, err)
+            }
+            Action::Check { diff: true } => {
+                check_diff::<T, R, W, E>(alloc, reader, name, hints, out, err)
+            }
+            Action::List => check_list::<T, R, W, E>(alloc, reader, name, hints, out, err),
             Action::Format(Output::Objects { .. })
             | Action::Write { .. }
             | Action::Find { .. }
@@ -134,6 +138,7 @@ impl<'s, W: Write, E: Write> Session<'s, W, E> {
             name,
             recover: self.task.recovers,
             line_buffered: self.task.line_buffered,
+            hints: Some(hint_kind(kind)),
         };
         if self.task.action.has_objects() {
             return self.objects(kind, options, reader);
@@ -230,6 +235,7 @@ impl<'s, W: Write, E: Write> Session<'s, W, E> {
                 rename,
                 force,
                 quiet,
+                hints: Some(hint_kind(kind)),
             };
             return self.rewrite(kind, how, meter, path);
         }
