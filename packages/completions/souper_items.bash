@@ -25,10 +25,10 @@ _souper_items() {
         return
     fi
     case ${COMP_WORDS[1]} in
-    format | each) options="$shared -z --null --key --rename -k --keep-going --line-buffered --json --lhs-key -w --write --force" ;;
-    uniq) options="$shared -z --null --key --rename -k --keep-going --line-buffered -c --count -d --repeated" ;;
-    find) options="$shared -z --null --key --rename -k --keep-going --line-buffered --in --first --unanswered --json" ;;
-    check) options="$shared --diff" ;;
+    format | each) options="$shared -z --null -0 --null-data --key --rename -k --keep-going --line-buffered --json --lhs-key -w --write --force" ;;
+    uniq) options="$shared -z --null -0 --null-data --key --rename -k --keep-going --line-buffered -c --count -d --repeated" ;;
+    find) options="$shared -z --null -0 --null-data --key --rename -k --keep-going --line-buffered --in --first --unanswered --json" ;;
+    check) options="$shared --diff -l --list" ;;
     help)
         [[ $COMP_CWORD -eq 2 ]] && mapfile -t COMPREPLY < <(compgen -W 'format uniq find check' -- "$word")
         return
@@ -46,7 +46,7 @@ _souper_items() {
     elif [[ $word == -* ]]; then
         mapfile -t COMPREPLY < <(compgen -W "$options" -- "$word")
     elif [[ ${COMP_WORDS[1]} != find && -z $(_souper_items_operands) ]]; then
-        mapfile -t COMPREPLY < <(compgen -W 'lhs rhs rep' -- "$word")
+        mapfile -t COMPREPLY < <(compgen -W 'lhs rhs rep auto' -- "$word")
     else
         compopt -o filenames 2>/dev/null
         mapfile -t COMPREPLY < <(compgen -f -- "$word")

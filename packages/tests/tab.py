@@ -64,7 +64,9 @@ def option_cases():
         options = re.findall(r"^ .*?(--[a-z-]+)", printed, re.MULTILINE)
         assert "--help" in options and "--color" in options, printed
         for option in options:
-            yield f"souper_items {command} {option}", [f"souper_items {command} {option}{end}" for end in (" ", "=")]
+            # Another option may begin with the same letters.
+            ends = ("", " ", "=") if any(other != option and other.startswith(option) for other in options) else (" ", "=")
+            yield f"souper_items {command} {option}", [f"souper_items {command} {option}{end}" for end in ends]
 
 
 CASES = [

@@ -54,6 +54,7 @@ fn read_options(name: &str, recover: bool) -> ReadOptions<'_> {
         name,
         recover,
         line_buffered: false,
+        hints: None,
     }
 }
 
@@ -205,6 +206,7 @@ impl Session {
             self.alloc,
             &mut reader,
             "store",
+            None,
             &mut err,
         );
         self.out.number(u64::from(status));

@@ -67,6 +67,7 @@ fn run(alloc: Global, command: Command, mut source: &[u8], want: Want<'_>) -> Re
         name: "a.opt",
         recover: matches!(command, Command::Objects),
         line_buffered: false,
+        hints: None,
     };
     let status = match command {
         Command::Each(layout) => each_run_with::<LeftHandSide, &[u8], &mut [u8], &mut [u8]>(
@@ -137,7 +138,7 @@ fn item_object(alloc: Global) -> Result<Met> {
 fn refusal_object(alloc: Global) -> Result<Met> {
     let want = Want {
         status: 1,
-        records: b"{\"column\":7,\"file\":\"a.opt\",\"line\":1,\"message\":\"no value named '%x' in scope\",\"offset\":6}\n",
+        records: b"{\"column\":7,\"file\":\"a.opt\",\"hint\":null,\"line\":1,\"message\":\"no value named '%x' in scope\",\"offset\":6}\n",
         line: b"a.opt:1:7: no value named '%x' in scope\n     |\n   1 | infer %x\n     |       ^\n",
     };
     run(alloc, Command::Objects, b"infer %x\n", want)

@@ -31,6 +31,7 @@ fn made_of<T: StreamItem + Drop>(alloc: Global, text: &str) -> io::Result<Made> 
         name: "unknown",
         recover: false,
         line_buffered: false,
+        hints: None,
     };
     let status = each_run_with::<T, BufReader<&[u8]>, &mut Vec<u8>, &mut Vec<u8>>(
         alloc,

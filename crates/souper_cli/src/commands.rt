@@ -9,8 +9,8 @@ Status: 0, done; 1, a file is invalid or not canonical; 2, usage, I/O or memory;
 `souper_items COMMAND --help` has the options of a command.";
 
 fn kind_arg<'a>(alloc: Global) -> Arg<'a> {
-    arg!(in alloc; <KIND> "lhs (left-hand sides), rhs (right-hand sides) or rep (replacements)")
-        .value_parser(["lhs", "rhs", "rep"].as_slice())
+    arg!(in alloc; <KIND> "lhs, rhs, rep (replacements), or auto (by suffix)")
+        .value_parser(["lhs", "rhs", "rep", "auto"].as_slice())
         .hide_possible_values(true)
 }
 
@@ -18,7 +18,7 @@ fn files_arg<'a>(alloc: Global) -> Arg<'a> {
     Arg::new(alloc, "FILE")
         .num_args(0..)
         .action(ArgAction::Append)
-        .help("The files; without any, or for `-`, standard input")
+        .help("Files and folders; without any, or for `-`, standard input")
 }
 
 fn color_arg<'a>(alloc: Global) -> Arg<'a> {
@@ -28,7 +28,7 @@ fn color_arg<'a>(alloc: Global) -> Arg<'a> {
 }
 
 fn quiet_arg<'a>(alloc: Global) -> Arg<'a> {
-    arg!(in alloc; -q --quiet "Show no progress at a terminal")
+    arg!(in alloc; -q --quiet "Show no progress and no losses")
 }
 
 fn json_arg(json: Arg<'_>) -> Result<Arg<'_>, AllocError> {
@@ -39,6 +39,7 @@ fn json_arg(json: Arg<'_>) -> Result<Arg<'_>, AllocError> {
 fn writer<'a>(alloc: Global, name: &'a str) -> Result<Command<'a>, AllocError> {
     Command::new(alloc, name)
         .arg(arg!(in alloc; -z --null "End each record with a NUL character instead"))?
+        .arg(arg!(in alloc; -'0' --"null-data" "Read NUL characters as newlines"))?
         .arg(arg!(in alloc; --key "Begin each record with a comment: the SHA-256 of its text"))?
         .arg(arg!(in alloc; --rename "Name the values %0, %1, .. in printed order"))?
         .arg(arg!(in alloc; -k --"keep-going" "Go on after an invalid item; the status is then 1"))?
@@ -51,13 +52,14 @@ fn format<'a>(alloc: Global) -> Result<Command<'a>, AllocError> {
     let others = [
         "lhs-key",
         "null",
+        "null-data",
         "key",
         "json",
         "keep-going",
         "line-buffered",
     ];
     let json = arg!(in alloc; --json "Write a line of JSON for each item and each parse error");
-    let write = arg!(in alloc; -w --write "Rewrite each file by its canonical text");
+    let write = arg!(in alloc; -w --write "Rewrite each file; comments and unused values are lost");
     let force = arg!(in alloc; --force "Rewrite write-protected files too");
     writer(alloc, "format")?
         .about("Writes the record of each item: its canonical text")
@@ -104,10 +106,12 @@ fn find<'a>(alloc: Global) -> Result<Command<'a>, AllocError> {
 }
 
 fn check<'a>(alloc: Global) -> Result<Command<'a>, AllocError> {
+    let list = arg!(in alloc; -l --list "Write only the names of files that are not canonical");
     Command::new(alloc, "check")
         .about("Says which files are not canonical, and the first line that is not")
         .after_help("Example: souper_items check --diff lhs *.lhs | patch -p1")
         .arg(arg!(in alloc; --diff "Write what would change, as a unified diff"))?
+        .arg(list.conflicts_with("diff")?)?
         .arg(color_arg(alloc))?
         .arg(quiet_arg(alloc))?
         .arg(kind_arg(alloc))?

@@ -3,7 +3,7 @@ use Rattle.std.specs.Prelude.{◌≡◌, ℕ, Bool, List, [], ◌∷◌, ◌++�
 use Rattle.std.specs.Io.KnownBytes.{Appends}
 use Rattle.souper_graph.specs.Values.{Item}
 use Rattle.souper_graph.specs.Syntax.Spelling.{left_hand_side}
-use Rattle.souper_errors.specs.declared.error.ParseError.{ParseError}
+use Rattle.souper_records.specs.Reports.{Refusal}
 use Rattle.souper_stream.specs.declared.starts.Start.{Start}
 use Rattle.souper_format.specs.Streams.{Stream}
 use Rattle.souper_lookup.specs.Instance.{AreInstances}
@@ -53,7 +53,7 @@ abbrev pub group_lines : List ℕ → Start × List (List ℕ) → List ℕ
 group_lines name group = flat_map (λ text. text_line name (group.0, text)) group.1
 
 -- what is written for a part, whose left-hand sides begin there and have these texts, and for its refusal, if it is refused
-abbrev pub groups_text : Output → List ℕ → List Start → Option ParseError → List (List (List ℕ)) → List ℕ
+abbrev pub groups_text : Output → List ℕ → List Start → Option Refusal → List (List (List ℕ)) → List ℕ
 groups_text output name starts refusal groups = part_text group_records group_lines output name starts refusal groups
 
 -- what is written for the parts of a stream of this name

@@ -3,7 +3,7 @@ use Rattle.std.specs.Prelude.{ℕ, Bool, List, [], ◌++◌, map, flat_map, code
 use Rattle.serde_json.specs.Data.{Data, number, unsigned, string, object, member, no_members}
 use Rattle.souper_graph.specs.Values.{PlainInfer, Item}
 use Rattle.souper_graph.specs.Syntax.Spelling.{replacement}
-use Rattle.souper_errors.specs.declared.error.ParseError.{ParseError}
+use Rattle.souper_records.specs.Reports.{Refusal}
 use Rattle.souper_stream.specs.declared.starts.Start.{Start}
 use Rattle.souper_format.specs.Streams.{Stream, IsGiven}
 use Rattle.souper_graph.specs.LeftSides.{infer_of, with_infer}
@@ -50,7 +50,7 @@ abbrev pub keyed_line : List ℕ → Start × (List ℕ × Option (List ℕ)) �
 keyed_line name k = object_line (keyed_object name k.0 k.1)
 
 -- what is written for a part, whose replacements begin there and are these, and for its refusal, if it is refused
-abbrev pub part_keyed : Output → List ℕ → List Start → Option ParseError → List (List ℕ × Option (List ℕ)) → List ℕ
+abbrev pub part_keyed : Output → List ℕ → List Start → Option Refusal → List (List ℕ × Option (List ℕ)) → List ℕ
 part_keyed output name starts refusal items = part_text keyed_record keyed_line output name starts refusal items
 
 -- the same of the outcome of a part

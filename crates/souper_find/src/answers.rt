@@ -13,10 +13,11 @@ use crate::search::Search;
 use crate::texts::texts_for;
 use souper_format::watched::Watched;
 use souper_ir::ast::{Arena, LeftHandSide, Statement};
-use souper_ir::parse::{ParseError, Sink, WholeItem};
+use souper_ir::parse::{Sink, WholeItem};
 use souper_records::options::ReadOptions;
 use souper_records::output::part_text;
 use souper_records::parts::{Part, PartSink, Source, write_parts};
+use souper_records::rejected::Rejected;
 use souper_records::stop::{Stop, write_text};
 use souper_stream::ChunkSink;
 use std::alloc::{AllocError, Global};
@@ -74,7 +75,7 @@ impl PartSink<LeftHandSide> for Answers<'_> {
         &mut self,
         alloc: Global,
         part: Part<'_>,
-        refusal: Option<&ParseError>,
+        refusal: Option<Rejected<'_>>,
         out: &mut Watched<W>,
     ) -> Result<(), Stop> {
         let text = part_text(alloc, self.search.output, part, refusal, &self.groups)?;

@@ -22,7 +22,7 @@ ghost use Rattle.souper_find.specs.Keyed.{lhs_key, keyed_by, view_keyed, lhs_lin
 use serde_json::{Value, json};
 use souper_format::watched::Watched;
 use souper_ir::ast::{Arena, Replacement, Statement};
-use souper_ir::parse::{ParseError, Sink, WholeItem};
+use souper_ir::parse::{Sink, WholeItem};
 use souper_ir::stringify::TextError;
 use souper_lookup::keys::left_key;
 use souper_records::layout::Layout;
@@ -31,6 +31,7 @@ use souper_records::options::ReadOptions;
 use souper_records::output::{Output, Shown, part_text};
 use souper_records::parts::{Part, PartSink, Source, write_parts};
 use souper_records::records::{append_last_text, append_record_of_text, key_of};
+use souper_records::rejected::Rejected;
 use souper_records::stop::{Stop, write_text};
 use souper_stream::{ChunkSink, Start};
 use std::alloc::{AllocError, Global};
@@ -180,7 +181,7 @@ impl PartSink<Replacement> for KeyedItems {
         &mut self,
         alloc: Global,
         part: Part<'_>,
-        refusal: Option<&ParseError>,
+        refusal: Option<Rejected<'_>>,
         out: &mut Watched<W>,
     ) -> Result<(), Stop> {
         let text = part_text(alloc, self.output, part, refusal, &self.items)?;

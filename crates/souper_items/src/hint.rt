@@ -1,13 +1,38 @@
-//! Hints for who gave another kind than a file has.
+//! Hints: what the writer of an invalid text may have meant, and for who gave another kind than a file has.
 
 use souper_format::command::Kind;
 use souper_format::watched::Watched;
+use souper_hint::hint_of;
 use souper_ir::ast::{LeftHandSide, Replacement, RightHandSide};
-use souper_ir::parse::{Sink, WholeItem};
+use souper_ir::parse::{ParseError, Sink, WholeItem};
 use souper_stream::{ChunkSink, ItemReader, StreamItem};
-use std::alloc::AllocError;
+use std::alloc::{AllocError, Global};
 use std::fs::File;
 use std::io::{BufReader, Read, Take, Write};
+
+/// The kind, as hints name it.
+pub(crate) fn hint_kind(kind: Kind) -> souper_hint::Kind {
+    match kind {
+        Kind::Lhs => souper_hint::Kind::Lhs,
+        Kind::Rhs => souper_hint::Kind::Rhs,
+        Kind::Rep => souper_hint::Kind::Rep,
+    }
+}
+
+/// Reports the hint for the error of a whole text, if there is one.
+pub(crate) fn say_hint<E: Write>(
+    alloc: Global,
+    hints: Option<souper_hint::Kind>,
+    text: &str,
+    error: &ParseError,
+    err: &mut Watched<E>,
+) {
+    if let Some(kind) = hints
+        && let Ok(Some(hint)) = hint_of(alloc, kind, 0, text, error)
+    {
+        let _ = writeln!(err, "hint: {hint}");
+    }
+}
 
 // Whether items were taken, and none was taken back.
 #[derive(Drop)]

@@ -2,49 +2,31 @@
 #![tactic(auto)]
 
 mod differ;
+mod folders;
 mod hint;
+mod input;
+mod losses;
+mod objects;
 mod options;
 mod rewrite;
+mod same_file;
+mod session;
 
 use clap::ArgMatches;
-use differ::check_diff;
-use hint::hint;
-use options::{Action, Color, Task, read_task};
-use rewrite::rewrite;
+use options::{Color, read_task};
+use session::run_task;
 use souper_cli::commands::grammar;
 use souper_cli::excerpt::Style;
-use souper_cli::progress::{Meter, Metered};
 use souper_cli::terminal::Terminal;
-use souper_find::run::{fill_run, find_run, keyed_run};
-use souper_find::search::Search;
-use souper_format::command::Kind;
 use souper_format::watched::Watched;
-use souper_hash::Seed;
-use souper_ir::ast::{LeftHandSide, Replacement, RightHandSide};
-use souper_lookup::store::Store;
-use souper_records::check::check_run;
-use souper_records::layout::Layout;
-use souper_records::options::ReadOptions;
-use souper_records::output::Output;
 use souper_records::report::{report_fault, report_memory};
-use souper_records::run::{
-    count_run, each_run_with, objects_run_with, report_output, uniq_run_with,
-};
-use souper_records::seen::Seen;
-use souper_stream::StreamItem;
+use souper_records::run::report_output;
 use std::alloc::Global;
 use std::cell::Cell;
 use std::env::{Env, FillError};
-use std::fs::File;
-use std::hash::RandomState;
-use std::io::{BufRead, BufReader, ErrorKind, IsTerminal, Write};
+use std::io::{ErrorKind, IsTerminal, Write};
 use std::process::ExitCode;
-use std::{env, fs, io};
-
-const STANDARD_INPUT: &str = "(standard input)";
-
-// How many bytes are asked for at a time: as many as a pipe of Linux holds.
-const CAPACITY: usize = 1 << 16;
+use std::{env, io};
 
 /// Reports a fault of the stream of this name, and returns the status of the program.
 pub(crate) fn failed<E: Write>(
@@ -63,198 +45,6 @@ pub(crate) fn out_of_memory<E: Write>(err: &mut Watched<E>) -> u8 {
     2
 }
 
-/// The task, and what stays from file to file.
-#[derive(Drop)]
-struct Session<'s, W, E> {
-    rt: &'s HostRuntime,
-    task: &'s Task<'s, 's>,
-    seen: Seen,
-    store: Store,
-    out: Watched<W>,
-    err: Watched<E>,
-
-    // Whether a parse error was shown.
-    is_refused: &'s Cell<bool>,
-}
-
-// Each method returns a status of the program.
-impl<'s, W: Write, E: Write> Session<'s, W, E> {
-    // A stream of items of the type.
-    fn items<T: StreamItem + Drop, R: BufRead>(
-        &mut self,
-        options: ReadOptions<'_>,
-        reader: &mut R,
-    ) -> u8 {
-        let (alloc, name) = (self.rt.alloc(), options.name);
-        let (seen, out, err) = (&mut self.seen, &mut self.out, &mut self.err);
-        match self.task.action {
-            Action::Format(Output::Records(layout)) => {
-                each_run_with::<T, R, W, E>(alloc, layout, options, reader, out, err)
-            }
-            Action::Format(Output::Objects { rename }) => {
-                objects_run_with::<T, R, W, E>(alloc, rename, options, reader, out, err)
-            }
-            Action::Uniq(layout) => {
-                uniq_run_with::<T, R, W, E>(layout, options, seen, reader, out, err)
-            }
-            // The records come at the end.
-            Action::Count(layout, _) => {
-                let layout = Layout {
-                    key: false,
-                    ..layout
-                };
-                let mut none = Watched::new(io::sink());
-                uniq_run_with::<T, R, io::Sink, E>(layout, options, seen, reader, &mut none, err)
-            }
-            Action::Check { diff: false } => check_run::<T, R, E>(alloc, reader, name, err),
-            Action::Check { diff: true } => check_diff::<T, R, W, E>(alloc, reader, name, out, err),
-            Action::Write { .. } | Action::Find { .. } | Action::Keyed(_) => 2,
-        }
-    }
-
-    fn stream<R: BufRead>(&mut self, reader: &mut R, name: &str) -> u8 {
-        let alloc = self.rt.alloc();
-        let options = ReadOptions {
-            name,
-            recover: self.task.recovers,
-            line_buffered: self.task.line_buffered,
-        };
-        let (store, out, err) = (&self.store, &mut self.out, &mut self.err);
-        match (self.task.action, self.task.kind) {
-            (Action::Find { choice, output }, _) => {
-                let search = Search {
-                    store,
-                    choice,
-                    output,
-                };
-                find_run(alloc, search, options, reader, out, err)
-            }
-            (Action::Keyed(output), _) => keyed_run(alloc, output, options, reader, out, err),
-            (_, Kind::Lhs) => self.items::<LeftHandSide, R>(options, reader),
-            (_, Kind::Rhs) => self.items::<RightHandSide, R>(options, reader),
-            (_, Kind::Rep) => self.items::<Replacement, R>(options, reader),
-        }
-    }
-
-    fn standard_input(&mut self, meter: &mut Meter<'s>) -> u8 {
-        meter.begin(STANDARD_INPUT, None);
-        let reader = self.rt.stdin();
-        match BufReader::with_capacity(self.rt.alloc(), CAPACITY, Metered { reader, meter }) {
-            Ok(mut reader) => self.stream(&mut reader, STANDARD_INPUT),
-            Err(_) => out_of_memory(&mut self.err),
-        }
-    }
-
-    fn rewrite(&mut self, rename: bool, force: bool, meter: &mut Meter<'s>, path: &str) -> u8 {
-        let (rt, err) = (self.rt, &mut self.err);
-        match self.task.kind {
-            Kind::Lhs => rewrite::<LeftHandSide, E>(rt, rename, force, meter, path, err),
-            Kind::Rhs => rewrite::<RightHandSide, E>(rt, rename, force, meter, path, err),
-            Kind::Rep => rewrite::<Replacement, E>(rt, rename, force, meter, path, err),
-        }
-    }
-
-    // A file; `-` is standard input.
-    fn file(&mut self, meter: &mut Meter<'s>, path: &'s str) -> u8 {
-        if path == "-" {
-            return self.standard_input(meter);
-        }
-        self.begin(meter, path);
-        let status = match self.task.action {
-            Action::Write { rename, force } => self.rewrite(rename, force, meter, path),
-            _ => match open(self.rt, meter, path) {
-                Ok(mut reader) => self.stream(&mut reader, path),
-                Err(fault) => failed(self.rt.alloc(), path, &fault, &mut self.err),
-            },
-        };
-        self.end(self.task.kind, path);
-        status
-    }
-
-    fn begin(&self, meter: &mut Meter<'s>, path: &'s str) {
-        meter.begin(path, len_of(self.rt, path));
-        self.is_refused.set(false);
-    }
-
-    // A hint after a refused file.
-    fn end(&mut self, kind: Kind, path: &str) {
-        if self.is_refused.get() && len_of(self.rt, path).is_some() {
-            hint(self.rt, kind, path, &mut self.err);
-        }
-    }
-
-    // Adds the replacements of a file to the store.
-    fn fill(&mut self, meter: &mut Meter<'s>, path: &'s str) -> u8 {
-        self.begin(meter, path);
-        let (alloc, store, err) = (self.rt.alloc(), &mut self.store, &mut self.err);
-        let status = match open(self.rt, meter, path) {
-            Ok(mut reader) => fill_run(alloc, store, &mut reader, path, err),
-            Err(fault) => failed(alloc, path, &fault, err),
-        };
-        self.end(Kind::Rep, path);
-        status
-    }
-
-    // The greatest status of the files. It ends after a failed write; what remembers items also ends after status 2. None is read unless
-    // the store has all its replacements.
-    fn files(&mut self, meter: &mut Meter<'s>) -> u8 {
-        for path in self.task.stores {
-            let status = self.fill(meter, path);
-            if status != 0 {
-                return status;
-            }
-        }
-        if self.task.files.is_empty() {
-            return self.standard_input(meter);
-        }
-        let mut status = 0;
-        for path in self.task.files {
-            if self.out.failed() || status == 2 && self.task.action.remembers() {
-                break;
-            }
-            status = status.max(self.file(meter, path));
-        }
-        status
-    }
-
-    // Progress is shown at a terminal, unless records are written to it.
-    fn run(&mut self, is_shown: &'s Cell<bool>) -> u8 {
-        let rt = self.rt;
-        let shows = !self.task.quiet
-            && rt.stderr().is_terminal()
-            && (self.task.action.is_silent() || !rt.stdout().is_terminal());
-        let mut meter = Meter::new(rt, shows, is_shown);
-        let status = self.files(&mut meter);
-        meter.clear();
-        match self.task.action {
-            Action::Count(layout, summary) if status != 2 => status.max(count_run(
-                self.rt.alloc(),
-                layout,
-                summary,
-                &self.seen,
-                &mut self.out,
-                &mut self.err,
-            )),
-            _ => status,
-        }
-    }
-}
-
-// The length of a regular file, in bytes.
-fn len_of(rt: &HostRuntime, path: &str) -> Option<u64> {
-    let metadata = fs::metadata(rt, path).ok()?;
-    metadata.is_file().then_some(metadata.len())
-}
-
-fn open<'m, 'a>(
-    rt: &HostRuntime,
-    meter: &'m mut Meter<'a>,
-    path: &str,
-) -> io::Result<BufReader<Metered<'m, 'a, File>>> {
-    let reader = File::open(rt, path)?;
-    Ok(BufReader::with_capacity(rt.alloc(), CAPACITY, Metered { reader, meter })?)
-}
-
 // Whether the user wants colors at a terminal.
 fn wants_color(rt: &HostRuntime) -> bool {
     let is_refused = env::var(rt, "NO_COLOR").is_ok_and(|value| !value.is_empty());
@@ -269,11 +59,6 @@ fn style(rt: &HostRuntime, color: Color) -> Style {
         (_, true) => Style::Clean,
         (_, false) => Style::Bytes,
     }
-}
-
-// A seed of random bytes, or a fixed one if the system has none to give.
-fn seed(rt: &HostRuntime) -> Seed {
-    RandomState::new(rt).map_or(Seed::fixed(), Seed::new)
 }
 
 // Does what the matches ask for, and returns the status.
@@ -292,17 +77,7 @@ fn run_matches(rt: &HostRuntime, matches: &ArgMatches<'_>) -> u8 {
         let _ = writeln!(err, "error: {fault}");
         return 2;
     }
-    let seed = seed(rt);
-    Session {
-        rt,
-        task: &task,
-        seen: Seen::with_seed(rt.alloc(), seed),
-        store: Store::with_seed(rt.alloc(), seed),
-        out: Watched::new(rt.stdout()),
-        err,
-        is_refused: &is_refused,
-    }
-    .run(&is_shown)
+    run_task(rt, task, &is_shown, &is_refused, err)
 }
 
 // The longest path of Linux, in bytes.

@@ -38,12 +38,33 @@ pub(crate) enum Action {
 
     /// Whether the stream is canonical is found out, and if asked for, what would change.
     Check { diff: bool },
+
+    /// The name of each file that is not canonical is written.
+    List,
 }
 
 impl Action {
     /// Whether the output for an item depends on the items before it.
     pub(crate) fn remembers(self) -> bool {
         matches!(self, Action::Uniq(_) | Action::Count(..))
+    }
+
+    /// Whether JSON objects are written, and parse errors have such.
+    pub(crate) fn has_objects(self) -> bool {
+        matches!(
+            self,
+            Action::Format(Output::Objects { .. })
+                | Action::Keyed(Output::Objects { .. })
+                | Action::Find {
+                    output: Output::Objects { .. },
+                    ..
+                }
+        )
+    }
+
+    /// Whether the names of the items that are written are by the printed order.
+    pub(crate) fn renames(self) -> bool {
+        matches!(self, Action::Format(output) if output.renames())
     }
 
     /// Whether nothing is written to standard output while a file is read.
@@ -58,7 +79,9 @@ impl Action {
 /// What the program is asked to do.
 #[derive(Clone, Copy)]
 pub(crate) struct Task<'m, 'a> {
-    pub(crate) kind: Kind,
+    /// The kind of the items of all files, or none if the name of each says it.
+    pub(crate) kind: Option<Kind>,
+
     pub(crate) action: Action,
 
     /// Whether reading resumes after a refusal, as it does where a refusal has an object.
@@ -67,9 +90,12 @@ pub(crate) struct Task<'m, 'a> {
     /// Whether each item is written once the line after it is there.
     pub(crate) line_buffered: bool,
 
+    /// Whether a NUL character is read as a newline.
+    pub(crate) nul_ends: bool,
+
     pub(crate) color: Color,
 
-    /// Whether no progress is shown.
+    /// Whether neither progress is shown nor what is lost.
     pub(crate) quiet: bool,
 
     /// The paths of the replacements that the store has.
@@ -89,8 +115,11 @@ impl Task<'_, '_> {
             Action::Find { .. } if has_input(self.stores) => {
                 Some("the argument '--in' needs a file, and standard input is none")
             }
-            Action::Keyed(_) if self.kind != Kind::Rep => {
+            Action::Keyed(_) if self.kind != Some(Kind::Rep) => {
                 Some("the argument '--lhs-key' needs replacements (rep)")
+            }
+            _ if self.kind.is_none() && (self.files.is_empty() || has_input(self.files)) => {
+                Some("the kind 'auto' needs files, and standard input is none")
             }
             _ => None,
         }
@@ -162,6 +191,7 @@ fn read_action(name: &str, options: &ArgMatches<'_>) -> Option<Action> {
             choice: read_choice(options),
             output,
         }),
+        "check" if options.get_flag("list") => Some(Action::List),
         "check" => Some(Action::Check {
             diff: options.get_flag("diff"),
         }),
@@ -169,15 +199,20 @@ fn read_action(name: &str, options: &ArgMatches<'_>) -> Option<Action> {
     }
 }
 
+// The word of a kind, or `auto`. `find` has no such argument.
+fn read_kind(options: &ArgMatches<'_>) -> Option<Kind> {
+    Kind::from_word(options.get_str("KIND").unwrap_or("lhs"))
+}
+
 /// What the matches ask for.
 pub(crate) fn read_task<'m, 'a>(matches: &'m ArgMatches<'a>) -> Option<Task<'m, 'a>> {
     let (name, options) = matches.subcommand()?;
     Some(Task {
-        // `find` has no such argument.
-        kind: Kind::from_word(options.get_str("KIND").unwrap_or("lhs"))?,
+        kind: read_kind(options),
         action: read_action(name, options)?,
         recovers: options.get_flag("keep-going") || options.get_flag("json"),
         line_buffered: options.get_flag("line-buffered"),
+        nul_ends: options.get_flag("null-data"),
         color: read_color(options),
         quiet: options.get_flag("quiet"),
         stores: options.get_strs("in").unwrap_or_default(),

@@ -1,19 +1,38 @@
 //! Files that are rewritten by their canonical texts.
 
+use crate::hint::say_hint;
+use crate::losses::say_lost;
 use crate::{failed, out_of_memory};
 use souper_cli::progress::{Meter, Metered};
 use souper_format::watched::Watched;
-use souper_ir::parse::{Before, WholeItem};
+use souper_hint::Kind;
+use souper_ir::parse::Before;
 use souper_records::layout::{Layout, PLAIN};
 use souper_records::records::records_of_text;
 use souper_records::report::{report_error, report_not_utf8};
-use souper_stream::not_utf8;
+use souper_stream::{StreamItem, not_utf8};
 use std::alloc::{AllocError, Global};
 use std::fs::{File, Metadata, OpenOptions};
 use std::io::{ErrorKind, Read, Write};
 use std::os::unix::fs::OpenOptionsExt;
 use std::path::{Path, PathBuf};
 use std::{fs, io};
+
+/// How files are rewritten.
+#[derive(Clone, Copy)]
+pub(crate) struct Rewriting {
+    /// Whether names are by the printed order.
+    pub(crate) rename: bool,
+
+    /// Whether write-protected files are rewritten too.
+    pub(crate) force: bool,
+
+    /// Whether nothing is said of comments and definitions that were not written.
+    pub(crate) quiet: bool,
+
+    /// The kind of the items, if hints are shown.
+    pub(crate) hints: Option<Kind>,
+}
 
 // A file that is not a link.
 #[derive(Drop)]
@@ -119,19 +138,19 @@ fn replace<E: Write>(
     }
 }
 
-/// Rewrites the file by its canonical text, or by that with names by the printed order, unless it has it already. Returns the status of
-/// the program: 0, it has that text; 1, it is invalid; 2, it cannot be read or replaced, it is write-protected and `force` is false, it is
-/// not UTF-8, or memory ran out. With 1 and 2 it is as before, and why was reported.
-pub(crate) fn rewrite<T: WholeItem + Drop, E: Write>(
+/// Rewrites the file by its canonical text, or by that with names by the printed order, unless it has it already or has no item. Says what
+/// was not written, and that a file has no item. Returns the status of the program: 0, it has that text, or no item; 1, it is invalid; 2, it
+/// cannot be read or replaced, it is write-protected and `force` is false, it is not UTF-8, or memory ran out. With 1 and 2 it is as before,
+/// and why was reported.
+pub(crate) fn rewrite<T: StreamItem + Drop, E: Write>(
     rt: &HostRuntime,
-    rename: bool,
-    force: bool,
+    how: Rewriting,
     meter: &mut Meter<'_>,
     name: &str,
     err: &mut Watched<E>,
 ) -> u8 {
     let alloc = rt.alloc();
-    let target = match read_target(rt, force, meter, name) {
+    let target = match read_target(rt, how.force, meter, name) {
         Ok(target) => target,
         Err(fault) => return failed(alloc, name, &fault, err),
     };
@@ -140,10 +159,29 @@ pub(crate) fn rewrite<T: WholeItem + Drop, E: Write>(
         report_not_utf8(alloc, name, not_utf8(before, &target.bytes), err);
         return 2;
     };
-    let layout = Layout { rename, ..PLAIN };
+    let layout = Layout {
+        rename: how.rename,
+        ..PLAIN
+    };
     match records_of_text::<T>(alloc, layout, source, Some(name)) {
         Ok(text) if text.as_str() == source => 0,
-        Ok(text) => replace(rt, name, &target, text.as_str(), err),
-        Err(error) => report_error(alloc, name, &error, err),
+        Ok(text) if text.as_str().is_empty() => {
+            if !how.quiet {
+                let _ = writeln!(err, "{name}: no item; the file stays as it is");
+            }
+            0
+        }
+        Ok(text) => {
+            let status = replace(rt, name, &target, text.as_str(), err);
+            if status == 0 && !how.quiet {
+                say_lost::<T, E>(alloc, name, source, err);
+            }
+            status
+        }
+        Err(error) => {
+            let status = report_error(alloc, name, &error, err);
+            say_hint(alloc, how.hints, source, &error, err);
+            status
+        }
     }
 }

@@ -1,5 +1,6 @@
 -- Canonical streams. A text has one list of items, so it is canonical or not.
 use Rattle.std.proofs.Common.{inl, inr, ℕ, Bool, false, List, [], Option, refl, sym, ap, ◌∙◌, subst}
+use Rattle.souper_hint.specs.declared.kinds.Kind.{Kind}
 use Rattle.souper_records.specs.declared.stop.ReadFault.{ReadFault}
 use Rattle.std.proofs.KnownBytes.{Appends-nil, Appends-trans, Appends-kept}
 use Rattle.souper_records.proofs.Prelude.{Item, ItemType, TextSpells, texts_of, concat, all_lines, Watched, Stream, stream, IsGiven, IsGivenNothing}
@@ -20,9 +21,9 @@ pub record IsChecked (k : ItemType) (before after : Option (List ℕ)) (c : Comp
   pub spelled : TextSpells k read items
   pub compared : IsCompared c read (texts_of items)
 
-pub checked_parts : {X : Type 0} {asked : Bool} (k : ItemType) (name : List ℕ) (before after : Option (List ℕ)) (c : Comparison) (err : Stream)
-    → WritesParts (record { kind = k; name = name; recover = false; before = before }) after (WroteParts k asked (λ os. X × IsCompared c (concat (all_lines (parts_of os))) (texts_of (items_of os)))) err false → IsChecked k before after c × IsGivenNothing err
-checked_parts k name before after c err p =
+pub checked_parts : {X : Type 0} {asked : Bool} (k : ItemType) (name : List ℕ) (hints : Option Kind) (before after : Option (List ℕ)) (c : Comparison) (err : Stream)
+    → WritesParts (record { kind = k; name = name; recover = false; hints = hints; before = before }) after (WroteParts k asked (λ os. X × IsCompared c (concat (all_lines (parts_of os))) (texts_of (items_of os)))) err false → IsChecked k before after c × IsGivenNothing err
+checked_parts k name hints before after c err p =
     let (all, parts) = p.ended (inr refl) in
     let os = p.outcomes in (
       record {
@@ -32,7 +33,7 @@ checked_parts k name before after c err p =
         spelled = p.spelled refl;
         compared = subst (λ (x : List ℕ). IsCompared c x (texts_of (items_of os))) (sym parts.whole) p.are_written.0.1;
       },
-      none_reported (record { kind = k; name = name; recover = false; before = before }) err os p.reads.are (sym p.any) p.reported,
+      none_reported (record { kind = k; name = name; recover = false; hints = hints; before = before }) err os p.reads.are (sym p.any) p.reported,
     )
 
 -- The reports come after none.
@@ -43,9 +44,9 @@ module _ {E : Type 0} (err_of : E → Option (List ℕ)) (x y z : Watched E) (qu
   reported_after : (P : List ℕ → Type 0) → Reported (stream err_of y z) P → Reported (stream err_of x z) P
   reported_after P r works = let (line, is, given) = r works in (line, is, given_after line given)
 
-  module _ (k : ItemType) (name : List ℕ) (before after : Option (List ℕ)) where
+  module _ (k : ItemType) (name : List ℕ) (hints : Option Kind) (before after : Option (List ℕ)) where
     abbrev run : ℕ → Type 0
-    run status = IsCheckRun k name before after (stream err_of x z) status
+    run status = IsCheckRun k name hints before after (stream err_of x z) status
 
     -- a text that differs
     pub check_other : (c : Comparison) (line status : ℕ) → (h : IsChecked k before after c) → DifferFrom h.read (texts_of h.items) line → ReportedOtherLine name line (stream err_of y z) status → run status

@@ -2,7 +2,7 @@
 use Rattle.std.proofs.Common.{◌≡◌, inl, inr, ℕ, zero, suc, ◌+◌, ◌/◌, ◌%◌, Bool, true, false, ◌&&◌, not, nat_lt, List, [], ◌∷◌, Option, Some, None, refl, sym, subst, arith, ne_eqb, ◌==◌, if◌then◌else◌, decimal}
 use Rattle.std.specs.Fmt.{digit_glyph, digits_onto, digits}
 use Rattle.std.proofs.lemmas.Bool.{and_parts, not-true, cases_lt, agree_below, agree_below_at}
-use Rattle.souper_records.proofs.Prelude.{All-both, ParseError, Start}
+use Rattle.souper_records.proofs.Prelude.{All-both, Start}
 use Rattle.json.specs.Print.{escape_byte, escape, quoted}
 use Rattle.json.proofs.Printed.Strings.{escape_byte_plain}
 use Rattle.serde_json.specs.Data.{Data, object, Members, no_members, member}
@@ -10,6 +10,7 @@ use Rattle.serde_json.specs.Written.{compact_text, members_text, comma_if}
 use Rattle.souper_graph.specs.Syntax.Tokens.{IsOneLine}
 use Rattle.souper_errors.specs.Errors.{offset_of, message_of}
 use Rattle.souper_records.specs.Records.{key_of}
+use Rattle.souper_records.specs.Reports.{Refusal}
 use Rattle.souper_records.specs.Objects.{error_column, item_object, error_line, optional_number, optional_string, refusal_object}
 
 either : {A : Type 0} (P : A → Type 0) (b : Bool) (x y : A) → P x → P y → P (if b then x else y)
@@ -87,6 +88,6 @@ string_line : (s : Option (List ℕ)) → IsOneLine (compact_text (optional_stri
 string_line None = (refl, (refl, (refl, (refl, tt))))
 string_line (Some s) = quoted_line s
 
-pub refusal_line : (name : List ℕ) (e : ParseError) → IsOneLine (compact_text (refusal_object name e))
-refusal_line name e =
-    (refl, members_line false (fields (refusal_object name e)) (number_line (error_column e), (quoted_line name, (number_line (error_line e), (string_line (message_of e), (number_line (offset_of e), tt))))))
+pub refusal_line : (name : List ℕ) (r : Refusal) → IsOneLine (compact_text (refusal_object name r))
+refusal_line name r =
+    (refl, members_line false (fields (refusal_object name r)) (number_line (error_column r.error), (quoted_line name, (string_line r.hint, (number_line (error_line r.error), (string_line (message_of r.error), (number_line (offset_of r.error), tt)))))))

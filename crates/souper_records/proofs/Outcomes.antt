@@ -6,7 +6,7 @@ use Rattle.std.proofs.lemmas.Bool.{false_from_ne_true, both_ways}
 use Rattle.std.proofs.lemmas.Grind.{flat_map-append}
 use Rattle.std.proofs.lemmas.List.{map-append, length_push}
 use Rattle.std.proofs.lemmas.List.Folds.{list_any-append}
-use Rattle.souper_records.proofs.Prelude.{Item, TextSpells, ParseError, Watched, Stream, stream, IsGiven, IsGivenNothing, has_failed}
+use Rattle.souper_records.proofs.Prelude.{Item, TextSpells, Watched, Stream, stream, IsGiven, IsGivenNothing, has_failed}
 use Rattle.std.proofs.KnownBytes.{Appends-nil, Appends-trans, Appends-kept, Keeps-trans}
 use Rattle.std.proofs.lemmas.List.Elements.{filter_map-append}
 use Rattle.souper_ir.specs.Sinks.{PrefixSpells}
@@ -20,7 +20,7 @@ use Rattle.souper_records.specs.declared.stop.Stop.TheVariants.{Input, Output, M
 use Rattle.souper_records.specs.Stops.{UnlessOutput}
 use Rattle.souper_records.specs.Runs.{output_name, EndsWithFault, IsPartsEnd, IsRun}
 use Rattle.souper_format.specs.Reporting.{Reported}
-use Rattle.souper_records.specs.Reports.{IsMemoryLine, IsFaultLine, IsReadFaultLine}
+use Rattle.souper_records.specs.Reports.{Refusal, IsMemoryLine, IsFaultLine, IsReadFaultLine}
 use Rattle.souper_records.specs.Outcomes.{InputStream, Outcome, IsOutcome, IsOutcomeAfter, AllAfter, AreOutcomes, HasItemStarts, HaveItemStarts, parts_of, items_of, refusals_of, any_refused, AreErrorLines, AreReported, AreReportedThen, WritesPart, WritesParts, ReadsParts, EndsRefused, IsBegun, StopsAfter, IsPartsResult, WroteParts}
 
 -- ---- lists of outcomes
@@ -42,12 +42,12 @@ some_parts ps p = let long = length_push ps p in omega arith
 
 -- ---- reports
 
-lines_both : (name : List ℕ) (es fs : List (Bool × ParseError)) (s t : List ℕ) → AreErrorLines name es s → AreErrorLines name fs t → AreErrorLines name (es ++ fs) (s ++ t)
+lines_both : (name : List ℕ) (es fs : List (Bool × Refusal)) (s t : List ℕ) → AreErrorLines name es s → AreErrorLines name fs t → AreErrorLines name (es ++ fs) (s ++ t)
 lines_both name [] fs s t none l = rw none l
 lines_both name (e ∷ es) fs s t (line, rest, is, one, more) l = (line, rest ++ t, ap (λ (x : List ℕ). x ++ t) is ∙ append_assoc line rest t, one, lines_both name es fs rest t more l)
 
 -- what was reported, if the writer works
-told : (name : List ℕ) (s : Stream) (es : List (Bool × ParseError)) → AreReported name s es → s.failed ≡ false → (text : List ℕ) × AreErrorLines name es text × IsGiven s text
+told : (name : List ℕ) (s : Stream) (es : List (Bool × Refusal)) → AreReported name s es → s.failed ≡ false → (text : List ℕ) × AreErrorLines name es text × IsGiven s text
 told name s [] r works = ([], refl, Appends-kept s.before s.before s.after [] (Appends-nil s.before) r)
 told name s (e ∷ es) r works = r works
 
@@ -56,18 +56,18 @@ module _ {W : Type 0} (bytes_of : W → Option (List ℕ)) (x y z : Watched W) (
   worked : has_failed z ≡ false → has_failed y ≡ false
   worked works = false_from_ne_true (has_failed y) (λ bad. both_ways (has_failed z) works (stays bad))
 
-  pub reported_both : (es fs : List (Bool × ParseError)) → AreReported name (stream bytes_of x y) es → AreReported name (stream bytes_of y z) fs → AreReported name (stream bytes_of x z) (es ++ fs)
+  pub reported_both : (es fs : List (Bool × Refusal)) → AreReported name (stream bytes_of x y) es → AreReported name (stream bytes_of y z) fs → AreReported name (stream bytes_of x z) (es ++ fs)
   reported_both [] [] r h = Keeps-trans _ _ _ r h
   reported_both es fs r h = λ works.
       let (s, lines, given) = told name (stream bytes_of x y) es r (worked works) in
       let (t, more, rest) = told name (stream bytes_of y z) fs h works in
       (s ++ t, lines_both name es fs s t lines more, Appends-trans _ _ _ s t given rest)
 
-  pub reported_none : (es : List (Bool × ParseError)) → AreReported name (stream bytes_of x y) es → IsGivenNothing (stream bytes_of y z) → AreReported name (stream bytes_of x z) es
+  pub reported_none : (es : List (Bool × Refusal)) → AreReported name (stream bytes_of x y) es → IsGivenNothing (stream bytes_of y z) → AreReported name (stream bytes_of x z) es
   reported_none es r h = subst (AreReported name (stream bytes_of x z)) (append-nil es) (reported_both es [] r h)
 
   -- then a line with the property P was
-  pub reported_then : (es : List (Bool × ParseError)) (P : List ℕ → Type 0) → AreReported name (stream bytes_of x y) es → Reported (stream bytes_of y z) P → AreReportedThen name (stream bytes_of x z) es P
+  pub reported_then : (es : List (Bool × Refusal)) (P : List ℕ → Type 0) → AreReported name (stream bytes_of x y) es → Reported (stream bytes_of y z) P → AreReportedThen name (stream bytes_of x z) es P
   reported_then es P r h = λ works.
       let (s, lines, given) = told name (stream bytes_of x y) es r (worked works) in
       let (line, is, more) = h works in
@@ -92,8 +92,8 @@ pub none_refused : (r : InputStream) (before : List (List Line)) (os : List Outc
 none_refused r before [] h none = (refl, refl)
 none_refused r before (o ∷ os) h none = under o.refusal h.0 none (λ rest. none_refused r (before ++ o.part ∷ []) os h.1 rest)
   where
-    under : (e : Option ParseError) → IsOutcome r (concat (all_lines before)) o.last o.part o.items e → (is_some e || any_refused os) ≡ false → (any_refused os ≡ false → (refusals_of os ≡ []) × PartsSpell r.kind (parts_of os) (items_of os))
-        → (cons_option (option_map (λ (x : ParseError). (o.last, x)) e) (refusals_of os) ≡ []) × PartsSpell r.kind (o.part ∷ parts_of os) (o.items ++ items_of os)
+    under : (e : Option Refusal) → IsOutcome r (concat (all_lines before)) o.last o.part o.items e → (is_some e || any_refused os) ≡ false → (any_refused os ≡ false → (refusals_of os ≡ []) × PartsSpell r.kind (parts_of os) (items_of os))
+        → (cons_option (option_map (λ (x : Refusal). (o.last, x)) e) (refusals_of os) ≡ []) × PartsSpell r.kind (o.part ∷ parts_of os) (o.items ++ items_of os)
     under (Some e) is bad more = absurd cc
     under None is rest more = let m = more rest in (m.0, (o.items, items_of os, refl, is, m.1))
 
@@ -106,7 +106,7 @@ parts_none : (r : InputStream) (before : List (List Line)) (os : List Outcome) (
 parts_none r before [] items h any spells = absurd cc
 parts_none r before (o ∷ os) items h any (xs, ys, is, one, more) = under o.refusal h.0 any (λ some. parts_none r (before ++ o.part ∷ []) os ys h.1 some more)
   where
-    under : (e : Option ParseError) → IsOutcome r (concat (all_lines before)) o.last o.part o.items e → (is_some e || any_refused os) ≡ true → (any_refused os ≡ true → ⊥) → ⊥
+    under : (e : Option Refusal) → IsOutcome r (concat (all_lines before)) o.last o.part o.items e → (is_some e || any_refused os) ≡ true → (any_refused os ≡ true → ⊥) → ⊥
     under (Some e) refused some later = refused.none xs one
     under None spelled some later = later some
 
@@ -123,7 +123,7 @@ module _ {i : InputStream} {mid after : Option (List ℕ)} {asked : Bool} {wrote
         are = all_more (IsOutcomeAfter i) [] os o r.are w.is;
         started = λ e. all_more (HasItemStarts i.kind) [] os o (r.started e) (w.begin (same ∙ e));
         written = join os o r.written w.are_written;
-        reported = subst (AreReported i.name (stream bytes_of x z)) (sym (filter_map-append (λ (p : Outcome). option_map (λ (e : ParseError). (p.last, e)) p.refusal) os (o ∷ []))) (reported_both bytes_of x y z stays i.name (refusals_of os) (refusals_of (o ∷ [])) r.reported w.reported);
+        reported = subst (AreReported i.name (stream bytes_of x z)) (sym (filter_map-append (λ (p : Outcome). option_map (λ (e : Refusal). (p.last, e)) p.refusal) os (o ∷ []))) (reported_both bytes_of x y z stays i.name (refusals_of os) (refusals_of (o ∷ [])) r.reported w.reported);
         any_is = (λ i. r.any_is i || w.any i) ∙ sym (list_any-append (λ (p : Outcome). is_some p.refusal) os (o ∷ []));
       }
 
@@ -200,7 +200,7 @@ known_mapped (Input fault) failed P Q f h = f h
 known_mapped (Output fault) failed P Q f h = h
 known_mapped Memory failed P Q f h = f h
 
-pub parts_mapped : {r : InputStream} {after : Option (List ℕ)} {one other : List Outcome → Type 0} {a b : Stream} {refused : Bool} → ((os : List Outcome) → one os → other os) → ((es : List (Bool × ParseError)) → AreReported r.name a es → AreReported r.name b es) → WritesParts r after one a refused → WritesParts r after other b refused
+pub parts_mapped : {r : InputStream} {after : Option (List ℕ)} {one other : List Outcome → Type 0} {a b : Stream} {refused : Bool} → ((os : List Outcome) → one os → other os) → ((es : List (Bool × Refusal)) → AreReported r.name a es → AreReported r.name b es) → WritesParts r after one a refused → WritesParts r after other b refused
 parts_mapped f kept w = record {
   outcomes = w.outcomes;
   reads = w.reads;

@@ -2,7 +2,7 @@
 use Rattle.std.proofs.Common.{◌≡◌, ℕ, List, [], ◌∷◌, ◌++◌, map, flat_map, Option, refl, ap}
 use Rattle.std.specs.List.{zip}
 use Rattle.souper_records.proofs.Prelude.{Start}
-use Rattle.souper_errors.specs.declared.error.ParseError.{ParseError}
+use Rattle.souper_records.specs.Reports.{Refusal}
 use Rattle.souper_records.specs.declared.layout.Layout.{Layout}
 use Rattle.souper_records.specs.declared.output.Output.{Output}
 use Rattle.souper_records.specs.declared.output.Output.TheVariants.{Records, Objects}
@@ -20,6 +20,6 @@ module _ {V C : Type 0} (records : Layout → V → List ℕ) (lines : List ℕ 
   viewed_lines name (s ∷ starts) [] = refl
   viewed_lines name (s ∷ starts) (v ∷ vs) = λ i. are_lines name s v i ++ viewed_lines name starts vs i
 
-  pub part_text_viewed : (output : Output) (name : List ℕ) (starts : List Start) (refusal : Option ParseError) (vs : List V) → part_text records lines output name starts refusal vs ≡ part_text records_of lines_of output name starts refusal (map view vs)
+  pub part_text_viewed : (output : Output) (name : List ℕ) (starts : List Start) (refusal : Option Refusal) (vs : List V) → part_text records lines output name starts refusal vs ≡ part_text records_of lines_of output name starts refusal (map view vs)
   part_text_viewed (Records l) name starts refusal vs = viewed_records l vs
   part_text_viewed (Objects rename) name starts refusal vs = ap (λ (x : List ℕ). x ++ refusal_line name refusal) (viewed_lines name starts vs)

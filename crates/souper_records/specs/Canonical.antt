@@ -5,6 +5,7 @@ use Rattle.souper_records.specs.Prelude.{Item, ItemType, TextSpells, AreAll, Str
 use Rattle.souper_graph.specs.Text.{texts_of}
 use Rattle.souper_format.specs.Formatted.{IsFormatted}
 use Rattle.souper_diff.specs.Comparisons.{DifferOnLine}
+use Rattle.souper_hint.specs.declared.kinds.Kind.{Kind}
 use Rattle.souper_records.specs.Outcomes.{WritesParts}
 use Rattle.souper_records.specs.declared.stop.ReadFault.{ReadFault}
 use Rattle.souper_records.specs.Reports.{ReportedMemory, ReportedReadFault}
@@ -36,14 +37,14 @@ ReportedOther k name read err = (line : ℕ) × (length read + 1 < 2 ^ 64 → Is
 
 -- The stream is refused: it begins with parts of which the last alone spells no items, and the refusal of that was reported. Whatever
 -- follows the text read, the stream spells no items.
-abbrev pub ReportedRefusal : ItemType → List ℕ → Option (List ℕ) → Option (List ℕ) → Stream → Type 0
-ReportedRefusal k name before after err = WritesParts (record { kind = k; name = name; recover = false; before = before }) after (λ os. Unit {0}) err true
+abbrev pub ReportedRefusal : ItemType → List ℕ → Option Kind → Option (List ℕ) → Option (List ℕ) → Stream → Type 0
+ReportedRefusal k name hints before after err = WritesParts (record { kind = k; name = name; recover = false; hints = hints; before = before }) after (λ os. Unit {0}) err true
 
 -- What the status says: 0, the whole stream is canonical, and nothing was reported; 1, it is not, and that was reported, or it is refused;
 -- 2, something failed, and that was reported.
-abbrev pub IsCheckRun : ItemType → List ℕ → Option (List ℕ) → Option (List ℕ) → Stream → ℕ → Type 0
-IsCheckRun k name before after err status = OnStatus status
+abbrev pub IsCheckRun : ItemType → List ℕ → Option Kind → Option (List ℕ) → Option (List ℕ) → Stream → ℕ → Type 0
+IsCheckRun k name hints before after err status = OnStatus status
     ((read : List ℕ) × IsWhole before after read × IsCanonical k read × IsGivenNothing err)
-    (((read : List ℕ) × IsWhole before after read × (IsCanonical k read → ⊥) × ReportedOther k name read err) ⊎ ReportedRefusal k name before after err)
+    (((read : List ℕ) × IsWhole before after read × (IsCanonical k read → ⊥) × ReportedOther k name read err) ⊎ ReportedRefusal k name hints before after err)
     (((fault : ReadFault) × ReportedReadFault name err fault) ⊎ ReportedMemory err)
     ⊥

@@ -7,6 +7,7 @@ use Rattle.souper_errors.specs.declared.place.Location.{Location}
 use Rattle.souper_errors.specs.Errors.{location_of, message_of, offset_of}
 use Rattle.souper_records.specs.Records.{key_of}
 use Rattle.souper_records.specs.Uniques.{text_by}
+use Rattle.souper_records.specs.Reports.{Refusal}
 use Rattle.souper_records.specs.Outcomes.{InputStream, Outcome, HaveItemStarts}
 
 -- the object of an item that has this text, in the stream of this name, and begins there
@@ -32,10 +33,10 @@ abbrev pub error_column : ParseError → Option ℕ
 error_column e = option_map (λ (location : Location). location.column) (location_of e)
 
 -- the object of a refusal of the stream of this name
-abbrev pub refusal_object : List ℕ → ParseError → Data
-refusal_object name e =
-    object (member (codes "column") (optional_number (error_column e)) (member (codes "file") (string name) (member (codes "line") (optional_number (error_line e))
-    (member (codes "message") (optional_string (message_of e)) (member (codes "offset") (optional_number (offset_of e)) no_members)))))
+abbrev pub refusal_object : List ℕ → Refusal → Data
+refusal_object name r =
+    object (member (codes "column") (optional_number (error_column r.error)) (member (codes "file") (string name) (member (codes "hint") (optional_string r.hint)
+    (member (codes "line") (optional_number (error_line r.error)) (member (codes "message") (optional_string (message_of r.error)) (member (codes "offset") (optional_number (offset_of r.error)) no_members))))))
 
 -- the text of an object, with no space in it, and a newline
 abbrev pub object_line : Data → List ℕ
@@ -50,9 +51,9 @@ abbrev pub text_lines : List ℕ → List Start → List (List ℕ) → List ℕ
 text_lines name starts texts = flat_map (text_line name) (zip starts texts)
 
 -- the line of a refusal, if there is one
-abbrev pub refusal_line : List ℕ → Option ParseError → List ℕ
+abbrev pub refusal_line : List ℕ → Option Refusal → List ℕ
 refusal_line name None = []
-refusal_line name (Some e) = object_line (refusal_object name e)
+refusal_line name (Some r) = object_line (refusal_object name r)
 
 -- the lines of a part: of its items, or of the ones that it begins with, and of its refusal, if it is refused
 abbrev pub part_lines : Bool → List ℕ → Outcome → List ℕ

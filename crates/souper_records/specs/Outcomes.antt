@@ -9,7 +9,8 @@ use Rattle.souper_ir.specs.Sinks.{PrefixSpells}
 use Rattle.souper_ir.specs.Stopping.{TextStops}
 use Rattle.souper_stream.specs.Segments.{Line, concat, all_lines, HasNoCut, AreParts, PartsSpell}
 use Rattle.souper_stream.specs.declared.reader.ItemReader.{ItemReader}
-use Rattle.souper_records.specs.Reports.{IsRefusalLine}
+use Rattle.souper_hint.specs.declared.kinds.Kind.{Kind}
+use Rattle.souper_records.specs.Reports.{Refusal, AreRefusalLines}
 use Rattle.souper_ir.specs.Starts.{PrefixSpellsFrom, TextSpellsFrom}
 use Rattle.souper_stream.specs.Starts.{ItemsStartAt}
 use Rattle.souper_stream.specs.Parts.{IsLocatedIn, IsPlacedIn, EndsAfter, HasParts, keeps_starts}
@@ -21,17 +22,18 @@ use Rattle.souper_records.specs.declared.stop.Stop.{Stop}
 use Rattle.souper_records.specs.Stops.{UnlessOutput}
 use Rattle.souper_records.specs.Records.{records_of}
 
--- a stream that is read: the type of its items, its name, whether reading resumes after a refusal, and the bytes that are left before
--- reading, if they are known
+-- a stream that is read: the type of its items, its name, whether reading resumes after a refusal, for which kind hints are asked for, if
+-- they are, and the bytes that are left before reading, if they are known
 pub record InputStream : Type 0 where
   pub kind : ItemType
   pub name : List ℕ
   pub recover : Bool
+  pub hints : Option Kind
   pub before : Option (List ℕ)
 
 -- a stream that is read with these options
 abbrev pub input_stream : ItemType → ReadOptions → Option (List ℕ) → InputStream
-input_stream k options before = record { kind = k; name = options.name.now; recover = options.recover; before = before }
+input_stream k options before = record { kind = k; name = options.name.now; recover = options.recover; hints = options.hints; before = before }
 
 -- the outcome of a part: whether the stream ends with it, its items, or the ones that it begins with, where they begin, if that was asked
 -- for, and its refusal, if it is refused
@@ -40,12 +42,13 @@ pub record Outcome : Type 0 where
   pub last : Bool
   pub starts : List Start
   pub items : List Item
-  pub refusal : Option ParseError
+  pub refusal : Option Refusal
 
 -- A refused part, after the parsed text `done`. It is one segment. The refusal has its place in the text read of the stream, and says where
--- that is at fault, and whether the segment ended there.
-pub record IsRefusedPart (r : InputStream) (done : List ℕ) (last : Bool) (part : List Line) (items : List Item) (e : ParseError) : Type 0 where
+-- that is at fault, and whether the segment ended there. It has a hint only if hints are asked for.
+pub record IsRefusedPart (r : InputStream) (done : List ℕ) (last : Bool) (part : List Line) (items : List Item) (e : ParseError) (hint : Option (List ℕ)) : Type 0 where
   pub kind : kind_of e ≡ Parse
+  pub unasked : r.hints ≡ None → hint ≡ None
   pub segment : HasNoCut r.kind part
   pub none : SpellsNone r.kind (concat part)
   pub begun : PrefixSpells r.kind (concat part) items
@@ -58,16 +61,16 @@ pub record IsRefusedPart (r : InputStream) (done : List ℕ) (last : Bool) (part
   pub stops : TextStops r.kind (concat part) (at_end_of e)
 
 -- the part spells the items, or it was refused
-abbrev pub IsOutcome : InputStream → List ℕ → Bool → List Line → List Item → Option ParseError → Type 0
+abbrev pub IsOutcome : InputStream → List ℕ → Bool → List Line → List Item → Option Refusal → Type 0
 IsOutcome r done last part items None = TextSpells r.kind (concat part) items
-IsOutcome r done last part items (Some e) = IsRefusedPart r done last part items e
+IsOutcome r done last part items (Some e) = IsRefusedPart r done last part items e.error e.hint
 
 -- the outcome of a part, given the parsed text `done` before it
 abbrev pub IsOutcomeAfter : InputStream → List ℕ → Outcome → Type 0
 IsOutcomeAfter r done o = IsOutcome r done o.last o.part o.items o.refusal
 
 -- the offsets of items that the part spells, or begins with
-abbrev pub SpellsAtOffsets : ItemType → List ℕ → Option ParseError → List Item → List ℕ → Type 0
+abbrev pub SpellsAtOffsets : ItemType → List ℕ → Option Refusal → List Item → List ℕ → Type 0
 SpellsAtOffsets k part None = TextSpellsFrom k part
 SpellsAtOffsets k part (Some e) = PrefixSpellsFrom k part
 
@@ -95,24 +98,24 @@ abbrev pub items_of : List Outcome → List Item
 items_of os = flat_map (λ (o : Outcome). o.items) os
 
 -- the refusals, and whether the stream ends with the refused part
-abbrev pub refusals_of : List Outcome → List (Bool × ParseError)
-refusals_of os = filter_map (λ (o : Outcome). option_map (λ (e : ParseError). (o.last, e)) o.refusal) os
+abbrev pub refusals_of : List Outcome → List (Bool × Refusal)
+refusals_of os = filter_map (λ (o : Outcome). option_map (λ (e : Refusal). (o.last, e)) o.refusal) os
 
 abbrev pub any_refused : List Outcome → Bool
 any_refused os = list_any (λ (o : Outcome). is_some o.refusal) os
 
--- the text is the lines of these refusals of the stream of this name
-abbrev pub AreErrorLines : List ℕ → List (Bool × ParseError) → List ℕ → Type 0
+-- the text is the lines of these refusals of the stream of this name, and of their hints
+abbrev pub AreErrorLines : List ℕ → List (Bool × Refusal) → List ℕ → Type 0
 AreErrorLines name [] text = text ≡ []
-AreErrorLines name (e ∷ es) text = (line : List ℕ) × (rest : List ℕ) × (text ≡ line ++ rest) × IsRefusalLine e.0 name e.1 line × AreErrorLines name es rest
+AreErrorLines name (e ∷ es) text = (line : List ℕ) × (rest : List ℕ) × (text ≡ line ++ rest) × AreRefusalLines e.0 name e.1 line × AreErrorLines name es rest
 
 -- unless the writer has failed, the lines of the refusals were written to it; without refusals, nothing was
-abbrev pub AreReported : List ℕ → Stream → List (Bool × ParseError) → Type 0
+abbrev pub AreReported : List ℕ → Stream → List (Bool × Refusal) → Type 0
 AreReported name err [] = IsGivenNothing err
 AreReported name err (e ∷ es) = err.failed ≡ false → (text : List ℕ) × AreErrorLines name (e ∷ es) text × IsGiven err text
 
 -- unless the writer has failed, the lines of the refusals were written to it, and then a line with the property P
-abbrev pub AreReportedThen : List ℕ → Stream → List (Bool × ParseError) → (List ℕ → Type 0) → Type 0
+abbrev pub AreReportedThen : List ℕ → Stream → List (Bool × Refusal) → (List ℕ → Type 0) → Type 0
 AreReportedThen name err es P = err.failed ≡ false → (text : List ℕ) × (line : List ℕ) × AreErrorLines name es text × P line × IsGiven err (text ++ line)
 
 -- the stream is read from its beginning

@@ -1,5 +1,5 @@
 -- Definitions. The lines that the program reports an error with.
-use Rattle.std.specs.Prelude.{◌≡◌, ◌⊎◌, ℕ, ◌-◌, ◌<◌, Bool, true, false, not, ◌&&◌, List, ◌++◌, length, replicate, codes, decimal, bytes_eq, Option, None, Some, IfSome, string_bytes}
+use Rattle.std.specs.Prelude.{◌≡◌, ◌⊎◌, ℕ, ◌-◌, ◌<◌, Bool, true, false, not, ◌&&◌, List, [], ◌++◌, length, replicate, codes, decimal, bytes_eq, Option, None, Some, IfSome, option_copied, string_bytes}
 use Rattle.souper_records.specs.Prelude.{ItemType, Stream, Line, concat, all_lines}
 use Rattle.souper_format.specs.Reporting.{IsLineOf, Reported}
 use Rattle.souper_errors.specs.Errors.{kind_of, located_error, message_of, location_of}
@@ -10,6 +10,7 @@ use Rattle.souper_errors.specs.declared.error.ParseErrorKind.TheVariants.{Io as 
 use Rattle.souper_stream.specs.declared.faults.NotUtf8.{NotUtf8}
 use Rattle.souper_stream.specs.declared.reader.ItemReader.{ItemReader}
 use Rattle.souper_stream.specs.Parts.{HasParts, EndsAfter}
+use Rattle.souper_records.specs.declared.rejected.Rejected.{Rejected}
 use Rattle.souper_records.specs.declared.stop.ReadFault.{ReadFault}
 use Rattle.souper_records.specs.declared.stop.ReadFault.TheVariants.{Utf8, Io}
 
@@ -71,6 +72,23 @@ says_end (Some message) = bytes_eq message (codes "unexpected EOF")
 -- speaks of the end of the input says that the item ends too early.
 abbrev pub IsRefusalLine : Bool → List ℕ → ParseError → List ℕ → Type 0
 IsRefusalLine last name e line = IsRefusalAtLine (not last && says_end (message_of e)) name e (location_of e) line
+
+-- a refusal: its error, and the text of its hint, if it has one
+pub record Refusal : Type 0 where
+  pub error : ParseError
+  pub hint : Option (List ℕ)
+
+abbrev pub refusal_of : Rejected → Refusal
+refusal_of r = record { error = r.error.now; hint = option_copied r.hint }
+
+-- the line of a hint, if there is one
+abbrev pub hint_line : Option (List ℕ) → List ℕ
+hint_line None = []
+hint_line (Some text) = codes "hint: " ++ (text ++ codes "\n")
+
+-- the line of a refusal, and then that of its hint
+abbrev pub AreRefusalLines : Bool → List ℕ → Refusal → List ℕ → Type 0
+AreRefusalLines last name r lines = (line : List ℕ) × IsRefusalLine last name r.error line × (lines ≡ line ++ hint_line r.hint)
 
 -- the line of the error was reported
 abbrev pub ReportedLine : Stream → ParseError → Type 0

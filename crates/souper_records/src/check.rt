@@ -10,12 +10,14 @@ use crate::each::Records;
 use crate::layout::PLAIN;
 use crate::options::ReadOptions;
 use crate::parts::{Part, PartSink, Source, write_parts};
+use crate::rejected::Rejected;
 use crate::report::{report_line, report_memory, report_read_fault};
 use crate::stop::Stop;
 use souper_diff::comparison::Comparison;
 use souper_format::watched::Watched;
+use souper_hint::Kind;
 use souper_ir::ast::{Arena, Statement};
-use souper_ir::parse::{ParseError, Sink, WholeItem};
+use souper_ir::parse::{Sink, WholeItem};
 use souper_stream::{ChunkSink, StreamItem};
 use std::alloc::{AllocError, Global};
 use std::io;
@@ -66,7 +68,7 @@ impl<T: StreamItem + Drop> PartSink<T> for Checked {
         &mut self,
         _alloc: Global,
         part: Part<'_>,
-        _refusal: Option<&ParseError>,
+        _refusal: Option<Rejected<'_>>,
         _out: &mut Watched<W>,
     ) -> Result<(), Stop> {
         self.comparison
@@ -81,7 +83,8 @@ impl<T: StreamItem + Drop> PartSink<T> for Checked {
 ///
 /// - 0: it is, and nothing was written to `err`.
 /// - 1: it is not, and a line was written to `err` that says so, with the name and the number of the first line that differs:
-///   `NAME:LINE: not canonical`; or it is refused, and the first refusal was written, which shows the name, and a newline.
+///   `NAME:LINE: not canonical`; or it is refused, and the first refusal was written, which shows the name, and a newline, and its hint, if a kind is given for
+///   `hints`.
 /// - 2: a read failed, the input is not UTF-8, or memory ran out. A line that says so was written to `err`.
 ///
 /// If a write to `err` fails, the status is the same.
@@ -89,15 +92,17 @@ pub fn check_run<T: StreamItem + Drop, R: BufRead, E: Write>(
     alloc: Global,
     reader: &mut R,
     name: &str,
+    hints: Option<Kind>,
     err: &mut Watched<E>,
 ) -> u8
-    ensures { IsCheckRun T.item_type name.now (R.remaining reader.old) (R.remaining reader.new)
+    ensures { IsCheckRun T.item_type name.now hints (R.remaining reader.old) (R.remaining reader.new)
         (stream E.contents err.old err.new) result }
 {
     let options = ReadOptions {
         name,
         recover: false,
         line_buffered: false,
+        hints,
     };
     let source = Source::new(alloc, options);
     let mut checked = Checked {

@@ -9,10 +9,11 @@ use crate::layout::Layout;
 use crate::options::ReadOptions;
 use crate::parts::{Part, PartSink, Source, write_parts};
 use crate::records::{append_last_text, append_record_of_text};
+use crate::rejected::Rejected;
 use crate::stop::{Stop, write_text};
 use souper_format::watched::Watched;
 use souper_ir::ast::{Arena, Statement};
-use souper_ir::parse::{ParseError, Sink, WholeItem};
+use souper_ir::parse::{Sink, WholeItem};
 use souper_stream::{ChunkSink, StreamItem};
 use std::alloc::{AllocError, Global};
 use std::io::{BufRead, Write};
@@ -74,7 +75,7 @@ impl<T: StreamItem + Drop> PartSink<T> for Records {
         &mut self,
         _alloc: Global,
         _part: Part<'_>,
-        _refusal: Option<&ParseError>,
+        _refusal: Option<Rejected<'_>>,
         out: &mut Watched<W>,
     ) -> Result<(), Stop> {
         write_text(&self.out, out)?;

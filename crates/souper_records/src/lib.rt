@@ -13,6 +13,7 @@ pub mod options;
 pub mod output;
 pub mod parts;
 pub mod records;
+pub mod rejected;
 pub mod report;
 pub mod run;
 pub mod seen;

@@ -1,8 +1,9 @@
 //! A JSON object for each item and each refusal of a stream, each on a line of its own.
-ghost use Rattle.std.specs.Prelude.{◌≡◌, ◌++◌, true, false, map, Option, IfOk, OnOk, option_copied, string_bytes};
+ghost use Rattle.std.specs.Prelude.{◌≡◌, ◌++◌, true, false, map, Option, IfOk, OnOk, option_copied, option_map, string_bytes};
 ghost use Rattle.std.specs.Io.KnownBytes.{Appends};
 ghost use Rattle.souper_records.specs.Prelude.{stream, has_failed};
 ghost use Rattle.souper_records.specs.Objects.{item_object, refusal_object, refusal_line, object_line, objects_of, optional_number, optional_string, WritesObjects};
+ghost use Rattle.souper_records.specs.Reports.{refusal_of};
 ghost use Rattle.souper_records.specs.Outcomes.{input_stream, IsPartsResult};
 ghost use Rattle.souper_records.specs.Uniques.{text_by};
 ghost use Rattle.serde_json.specs.View.{view};
@@ -12,11 +13,12 @@ use crate::options::ReadOptions;
 use crate::output::{Output, part_text};
 use crate::parts::{Part, PartSink, Source, write_parts};
 use crate::records::{key_of, push_last_text};
+use crate::rejected::Rejected;
 use crate::stop::{Stop, write_text};
 use serde_json::{Value, json};
 use souper_format::watched::Watched;
 use souper_ir::ast::{Arena, Statement};
-use souper_ir::parse::{ParseError, Sink, WholeItem};
+use souper_ir::parse::{Sink, WholeItem};
 use souper_stream::{ChunkSink, Start, StreamItem};
 use std::alloc::{AllocError, Global};
 use std::io::{BufRead, Write};
@@ -61,9 +63,10 @@ pub(crate) fn item_object(
 }
 
 // The object of the refusal.
-fn refusal_object(alloc: Global, name: &str, error: &ParseError) -> Result<Value, AllocError>
-    ensures { IfOk result (λ value. view value ≡ refusal_object name.now error.now) }
+fn refusal_object(alloc: Global, name: &str, refusal: Rejected<'_>) -> Result<Value, AllocError>
+    ensures { IfOk result (λ value. view value ≡ refusal_object name.now (refusal_of refusal.entry)) }
 {
+    let (error, hint) = (refusal.error, string(alloc, refusal.hint)?);
     let message = string(alloc, error.message())?;
     let (line, column) = match error.location() {
         Some(location) => (Some(location.line), Some(location.column)),
@@ -72,6 +75,7 @@ fn refusal_object(alloc: Global, name: &str, error: &ParseError) -> Result<Value
     json!(in alloc; {
         "column": number(column),
         "file": name,
+        "hint": hint,
         "line": number(line),
         "message": message,
         "offset": number(error.offset())
@@ -94,13 +98,13 @@ pub fn append_line(alloc: Global, object: &Value, out: &mut String) -> Result<()
 pub fn append_refusal(
     alloc: Global,
     name: &str,
-    refusal: Option<&ParseError>,
+    refusal: Option<Rejected<'_>>,
     out: &mut String,
 ) -> Result<(), AllocError>
-    ensures { OnOk result (string_bytes out.new ≡ string_bytes out.old ++ refusal_line name.now (option_copied refusal.entry)) }
+    ensures { OnOk result (string_bytes out.new ≡ string_bytes out.old ++ refusal_line name.now (option_map refusal_of refusal.entry)) }
 {
-    if let Some(error) = refusal {
-        let object = refusal_object(alloc, name, error)?;
+    if let Some(refusal) = refusal {
+        let object = refusal_object(alloc, name, refusal)?;
         append_line(alloc, &object, out)?;
     }
     Ok(())
@@ -153,7 +157,7 @@ impl<T: StreamItem + Drop> PartSink<T> for Objects {
         &mut self,
         alloc: Global,
         part: Part<'_>,
-        refusal: Option<&ParseError>,
+        refusal: Option<Rejected<'_>>,
         out: &mut Watched<W>,
     ) -> Result<(), Stop> {
         let output = Output::Objects {
@@ -171,8 +175,8 @@ impl<T: StreamItem + Drop> PartSink<T> for Objects {
 ///
 /// The object of an item has its canonical `text`, the `key` of the text ([`key_of`](crate::records::key_of)), the name of the stream
 /// as `file`, and where its first token is: the `offset` in bytes, and the 1-based `line`. With `rename` the names in the text are by the printed order
-/// of the item. The object of a refusal has `file`, `offset`, `line`, `column` and `message`: the line and the column are those of its
-/// location ([`ParseError::location`]). It comes after the objects of the items that its segment begins with, and the refusal is also written
+/// of the item. The object of a refusal has `file`, `offset`, `line`, `column`, `message` and `hint` (null if there is none): the line and the
+/// column are those of its location ([`ParseError::location`](souper_ir::parse::ParseError::location)). It comes after the objects of the items that its segment begins with, and the refusal is also written
 /// to `err`, with a newline.
 pub fn write_objects<T: StreamItem + Drop, R: BufRead, W: Write, E: Write>(
     alloc: Global,

@@ -1,5 +1,7 @@
 //! How a stream is read.
 
+use souper_hint::Kind;
+
 /// The name of a stream, and how it is read.
 #[derive(Clone, Copy)]
 pub struct ReadOptions<'a> {
@@ -12,4 +14,7 @@ pub struct ReadOptions<'a> {
     /// Whether the output of a segment is written as soon as the line after it can be read. `out` should then have no buffer. Else more is
     /// read at once, in less time.
     pub line_buffered: bool,
+
+    /// The kind of the items, if each refusal is to have a hint ([`hint_of`](souper_hint::hint_of)).
+    pub hints: Option<Kind>,
 }

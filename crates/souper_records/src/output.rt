@@ -1,7 +1,8 @@
 //! How items are written: by records, or by JSON objects.
-ghost use Rattle.std.specs.Prelude.{◌≡◌, ◌++◌, ℕ, List, flat_map, IfOk, OnOk, option_copied, string_bytes};
+ghost use Rattle.std.specs.Prelude.{◌≡◌, ◌++◌, ℕ, List, flat_map, IfOk, OnOk, option_map, string_bytes};
 ghost use Rattle.std.specs.List.{zip};
 ghost use Rattle.souper_records.specs.Records.{record_of_text};
+ghost use Rattle.souper_records.specs.Reports.{refusal_of};
 ghost use Rattle.souper_records.specs.Objects.{text_line, refusal_line};
 ghost use Rattle.souper_records.specs.Outputs.{renames, part_text};
 
@@ -9,7 +10,7 @@ use crate::layout::Layout;
 use crate::objects::{append_line, append_refusal, item_object};
 use crate::parts::Part;
 use crate::records::append_record_of_text;
-use souper_ir::parse::ParseError;
+use crate::rejected::Rejected;
 use souper_stream::Start;
 use std::alloc::{AllocError, Global};
 
@@ -143,10 +144,10 @@ pub fn part_text<V: Shown>(
     alloc: Global,
     output: Output,
     part: Part<'_>,
-    refusal: Option<&ParseError>,
+    refusal: Option<Rejected<'_>>,
     items: &Vec<V>,
 ) -> Result<String, AllocError>
-    ensures { IfOk result (λ out. string_bytes out ≡ part_text V.as_records V.as_lines output part.entry.name.now part.entry.starts.now (option_copied refusal.entry) items.now.items) }
+    ensures { IfOk result (λ out. string_bytes out ≡ part_text V.as_records V.as_lines output part.entry.name.now part.entry.starts.now (option_map refusal_of refusal.entry) items.now.items) }
 {
     match output {
         Output::Records(layout) => {

@@ -1,16 +1,18 @@
 //! The parts of a stream, whose output is written one after the other.
-ghost use Rattle.std.specs.Prelude.{◌≡◌, ◌++◌, ◌∷◌, ℕ, [], List, true, Option, Some, IfOk, IfErr, IfSome, IfNone, OnOk, option_copied};
+ghost use Rattle.std.specs.Prelude.{◌≡◌, ◌++◌, ◌∷◌, ℕ, [], List, true, Option, Some, IfOk, IfErr, IfSome, IfNone, OnOk, option_map};
 ghost use Rattle.souper_records.specs.Prelude.{Line, concat, stream};
 ghost use Rattle.souper_stream.specs.Parts.{HasParts, HasAll, keeps_starts, reads_eagerly};
 ghost use Rattle.souper_format.specs.Watching.{watched_inner, has_failed};
+ghost use Rattle.souper_records.specs.Reports.{refusal_of};
 ghost use Rattle.souper_records.specs.Stops.{IsNoInput, UnlessOutput};
 ghost use Rattle.souper_records.specs.Outcomes.{Outcome, IsAtStart, WritesPart, IsPartsResult, WroteParts, input_stream};
 
 use crate::options::ReadOptions;
-use crate::report::{line_of_refusal, report_line};
+use crate::rejected::{Rejected, as_text, hint_text};
+use crate::report::report_line;
 use crate::stop::{ReadFault, Stop, stop_of};
 use souper_format::watched::Watched;
-use souper_ir::parse::{ParseError, ParseErrorKind};
+use souper_ir::parse::ParseErrorKind;
 use souper_stream::{ChunkSink, ItemReader, Start, StreamItem};
 use std::alloc::Global;
 use std::io;
@@ -42,11 +44,11 @@ pub trait PartSink<T: StreamItem + Drop>: ChunkSink<T> {
         &mut self,
         alloc: Global,
         part: Part<'_>,
-        refusal: Option<&ParseError>,
+        refusal: Option<Rejected<'_>>,
         out: &mut Watched<W>,
     ) -> Result<(), Stop>
         ensures written { OnOk result ((first : Self) (start : Option (List ℕ)) (os : List Outcome) (before : Self) (o : Outcome) → wrote part.entry.name.now first start before (W.contents (watched_inner out.old)) os
-            → Self.holds before before [] → Self.holds before self.old o.items → o.starts ≡ part.entry.starts.now → concat o.part ≡ part.entry.text.now → o.refusal ≡ option_copied refusal.entry
+            → Self.holds before before [] → Self.holds before self.old o.items → o.starts ≡ part.entry.starts.now → concat o.part ≡ part.entry.text.now → o.refusal ≡ option_map refusal_of refusal.entry
             → wrote part.entry.name.now first start self.new (W.contents (watched_inner out.new)) (os ++ o ∷ [])) }
         ensures none { OnOk result (Self.holds self.new self.new []) }
         ensures input { IfErr result (λ stop. IsNoInput stop) }
@@ -66,6 +68,9 @@ fn min_chunk(options: ReadOptions<'_>) -> usize {
 pub struct Source<'a> {
     options: ReadOptions<'a>,
     parts: ItemReader,
+
+    // The number of bytes before the next part.
+    passed: usize,
 }
 
 impl<'a> Source<'a> {
@@ -81,6 +86,7 @@ impl<'a> Source<'a> {
         Source {
             options,
             parts: ItemReader::new(alloc, min_chunk(options)).eager(options.line_buffered),
+            passed: 0,
         }
     }
 
@@ -94,6 +100,7 @@ impl<'a> Source<'a> {
         Source {
             options,
             parts: ItemReader::with_starts(alloc, min_chunk(options)).eager(options.line_buffered),
+            passed: 0,
         }
     }
 }
@@ -123,23 +130,32 @@ fn write_next<T: StreamItem + Drop, S: PartSink<T>, R: BufRead, W: Write, E: Wri
     ensures stopped { IfErr result (λ stop. err.new ≡ err.old) }
     ensures unwritten { IfErr result (λ stop. UnlessOutput stop (has_failed out.new) (out.new ≡ out.old)) }
 {
-    let name = source.options.name;
+    let ReadOptions { name, hints, .. } = source.options;
+    let start = source.passed;
     match source
         .parts
         .read_part::<T, R, S>(alloc, reader, Some(name), sink)
     {
         Ok(true) => {
             let (starts, text) = (source.parts.starts(), source.parts.part());
+            let end = start.saturating_add(text.len());
             sink.write_part(alloc, Part { name, starts, text }, None, out)?;
+            source.passed = end;
             Ok(Some(false))
         }
         Ok(false) => Ok(None),
         Err(error) if error.kind() == ParseErrorKind::Parse => {
-            let shown = line_of_refusal(alloc, name, source.parts.is_at_end(), &error)?;
             let (starts, text) = (source.parts.starts(), source.parts.part());
-            let part = Part { name, starts, text };
-            sink.write_part(alloc, part, Some(&error), out)?;
-            report_line(&shown, err);
+            let end = start.saturating_add(text.len());
+            let hint = hint_text(alloc, hints, start, text, &error)?;
+            let rejected = Rejected {
+                error: &error,
+                hint: as_text(&hint),
+            };
+            let lines = rejected.lines(alloc, name, source.parts.is_at_end())?;
+            sink.write_part(alloc, Part { name, starts, text }, Some(rejected), out)?;
+            report_line(&lines, err);
+            source.passed = end;
             Ok(Some(true))
         }
         Err(error) => Err(stop_of(&error, source.parts.not_utf8())),

@@ -10,11 +10,12 @@ use crate::layout::Layout;
 use crate::options::ReadOptions;
 use crate::parts::{Part, PartSink, Source, write_parts};
 use crate::records::{push_last_text, records_of_texts};
+use crate::rejected::Rejected;
 use crate::seen::{Seen, count};
 use crate::stop::{Stop, write_text};
 use souper_format::watched::Watched;
 use souper_ir::ast::{Arena, Statement};
-use souper_ir::parse::{ParseError, Sink, WholeItem};
+use souper_ir::parse::{Sink, WholeItem};
 use souper_stream::{ChunkSink, StreamItem};
 use std::alloc::{AllocError, Global};
 use std::io::{BufRead, Write};
@@ -76,7 +77,7 @@ impl<T: StreamItem + Drop> PartSink<T> for Distinct {
         &mut self,
         alloc: Global,
         _part: Part<'_>,
-        _refusal: Option<&ParseError>,
+        _refusal: Option<Rejected<'_>>,
         out: &mut Watched<W>,
     ) -> Result<(), Stop> {
         let start = self.seen.counts.len();

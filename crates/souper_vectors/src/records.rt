@@ -3,6 +3,7 @@ mod checks;
 mod closed;
 mod faults;
 mod going_on;
+mod hints;
 mod layouts;
 mod lines;
 mod objects;

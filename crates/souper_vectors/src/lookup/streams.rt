@@ -54,6 +54,7 @@ fn finds(rt: &impl Abort, alloc: Global, search: Search<'_>, queries: &str, want
         name: "queries",
         recover: true,
         line_buffered: false,
+        hints: None,
     };
     let mut reader = queries.as_bytes();
     let status = find_run::<&[u8], &mut Vec<u8>, &mut Vec<u8>>(

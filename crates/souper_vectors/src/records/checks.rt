@@ -19,6 +19,7 @@ fn is_told<T: StreamItem + Drop>(rt: &impl Abort, alloc: Global, source: &[u8], 
         alloc,
         &mut reader,
         "a.opt",
+        None,
         &mut err,
     );
     let found = (status, headed(&reported, want.1));

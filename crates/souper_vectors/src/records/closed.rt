@@ -99,6 +99,7 @@ fn closed_pipe_has_no_counts(rt: HostRuntime) {
         name: "a.opt",
         recover: false,
         line_buffered: false,
+        hints: None,
     };
     let first = uniq_run_with::<LeftHandSide, Reader<'_>, io::Sink, &mut Vec<u8>>(
         PLAIN,

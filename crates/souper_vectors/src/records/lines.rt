@@ -104,6 +104,7 @@ fn items_are_written_line_by_line(rt: HostRuntime) {
                 name: "a.opt",
                 recover,
                 line_buffered: true,
+                hints: None,
             };
             let found = run(&rt, rt.alloc(), command, options);
             equal(&rt, (command, found), (command, (0, 3)));
@@ -117,6 +118,7 @@ fn items_are_written_late_otherwise(rt: HostRuntime) {
         name: "a.opt",
         recover: false,
         line_buffered: false,
+        hints: None,
     };
     let found = run(&rt, rt.alloc(), Command::Each, options);
     equal(&rt, found, (2, 1));

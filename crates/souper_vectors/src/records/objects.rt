@@ -37,13 +37,13 @@ infer %b (harvestedFromUse)
 
 const OBJECTS: &str =
     r#"{"file":"a \"b\"\\c.opt","key":"9ab2c4fc084674aeb23a5e4d7efe9e8c77a57da1de4e8c3c53440204b97cc386","line":3,"offset":25,"text":"%0:i32 = var\ninfer %0\n"}
-{"column":10,"file":"a \"b\"\\c.opt","line":6,"message":"expected a constant, var, block, phi, or instruction","offset":81}
+{"column":10,"file":"a \"b\"\\c.opt","hint":null,"line":6,"message":"expected a constant, var, block, phi, or instruction","offset":81}
 {"file":"a \"b\"\\c.opt","key":"743f1d3c80c8d473ae08780d477c237548e5bf612101b71798227faa2f68c740","line":10,"offset":99,"text":"%a = var\n%b = addnw %a, 1:i8\npc %b 0\ninfer %b (harvestedFromUse)\n"}
 "#;
 
 const RENAMED: &str =
     r#"{"file":"a \"b\"\\c.opt","key":"9ab2c4fc084674aeb23a5e4d7efe9e8c77a57da1de4e8c3c53440204b97cc386","line":3,"offset":25,"text":"%0:i32 = var\ninfer %0\n"}
-{"column":10,"file":"a \"b\"\\c.opt","line":6,"message":"expected a constant, var, block, phi, or instruction","offset":81}
+{"column":10,"file":"a \"b\"\\c.opt","hint":null,"line":6,"message":"expected a constant, var, block, phi, or instruction","offset":81}
 {"file":"a \"b\"\\c.opt","key":"ca1cc899a40cb193c8d4e5dfb3c248150826fd53a0988123537a897226b0fadf","line":10,"offset":99,"text":"%0 = var\n%1 = addnw %0, 1:i8\npc %1 0\ninfer %1 (harvestedFromUse)\n"}
 "#;
 
@@ -79,7 +79,7 @@ fn objects_have_text_key_file_and_start(rt: HostRuntime) {
 const LINE: &str =
     r#"{"file":"a \"b\"\\c.opt","key":"400a936d0ac7637324413df9aaf2067ff68468e602a5446af1e454878b5bad1e","line":1,"offset":0,"text":"result 1"}
 {"file":"a \"b\"\\c.opt","key":"096e929abe31157e5a522fecfe1333bb96b3252e9ee74923b6e9027206c4d068","line":1,"offset":9,"text":"result 2"}
-{"column":26,"file":"a \"b\"\\c.opt","line":1,"message":"expected an integer literal","offset":25}
+{"column":26,"file":"a \"b\"\\c.opt","hint":null,"line":1,"message":"expected an integer literal","offset":25}
 {"file":"a \"b\"\\c.opt","key":"8820375044723d31ea806186b0a729943dfbc2f1a594579823d2f6d9e07749c0","line":2,"offset":32,"text":"result 3"}
 {"file":"a \"b\"\\c.opt","key":"cbc48443813dad8f0918dcb489d7cf560db31473b8b1e5fa932b9394d7f7b278","line":3,"offset":41,"text":"result 4"}
 "#;

@@ -76,6 +76,7 @@ fn run(rt: &impl Abort, alloc: Global, text: &str, block: usize, recover: bool) 
         name: "a.opt",
         recover,
         line_buffered: true,
+        hints: None,
     };
     let mut reader = BufReader::with_capacity(alloc, 8192, blocks).expect(rt, "memory");
     let mut out = Watched::new(Items { written: &written });

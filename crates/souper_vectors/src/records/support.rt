@@ -1,6 +1,7 @@
 //! Runs of the commands over texts that are in memory.
 use crate::checks::{Ran, equal, text};
 use souper_format::watched::Watched;
+use souper_hint::Kind;
 use souper_records::layout::{Layout, PLAIN};
 use souper_records::options::ReadOptions;
 use souper_records::run::{each_run_with, objects_run_with, uniq_run_with};
@@ -19,6 +20,8 @@ pub(crate) enum Command {
     Uniq,
     UniqGoingOn,
     Objects { file: &'static str, rename: bool },
+    EachWithHints,
+    ObjectsWithHints,
 }
 
 // How the command reads a stream.
@@ -30,9 +33,16 @@ fn read_options(command: Command) -> ReadOptions<'static> {
         },
         recover: matches!(
             command,
-            Command::EachGoingOn | Command::UniqGoingOn | Command::Objects { .. }
+            Command::EachGoingOn
+                | Command::UniqGoingOn
+                | Command::Objects { .. }
+                | Command::EachWithHints
+                | Command::ObjectsWithHints
         ),
         line_buffered: matches!(command, Command::EachByLines),
+        hints: matches!(command, Command::EachWithHints | Command::ObjectsWithHints).then_some(
+            Kind::Lhs,
+        ),
     }
 }
 
@@ -50,7 +60,7 @@ pub(crate) fn run_to<T: StreamItem + Drop, R: BufRead, W: Write, E: Write>(
         Command::Each(layout) => {
             each_run_with::<T, R, W, E>(alloc, layout, options, reader, out, err)
         }
-        Command::EachGoingOn | Command::EachByLines => {
+        Command::EachGoingOn | Command::EachByLines | Command::EachWithHints => {
             each_run_with::<T, R, W, E>(alloc, PLAIN, options, reader, out, err)
         }
         Command::Uniq | Command::UniqGoingOn => {
@@ -58,6 +68,9 @@ pub(crate) fn run_to<T: StreamItem + Drop, R: BufRead, W: Write, E: Write>(
         }
         Command::Objects { rename, .. } => {
             objects_run_with::<T, R, W, E>(alloc, rename, options, reader, out, err)
+        }
+        Command::ObjectsWithHints => {
+            objects_run_with::<T, R, W, E>(alloc, false, options, reader, out, err)
         }
     }
 }

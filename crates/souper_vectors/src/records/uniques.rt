@@ -35,6 +35,7 @@ fn uniq<T: StreamItem + Drop, W: Write>(
         name: "a.opt",
         recover: false,
         line_buffered: false,
+        hints: None,
     };
     uniq_run_with::<T, BufReader<&[u8]>, W, &mut Vec<u8>>(
         layout,

@@ -11,23 +11,23 @@ returns-in-Ok-true g c =
 
 pub returns-in-None : goal.returns-in-None
 returns-in-None g c =
-    let (h, quiet) = checked_parts _ _ _ _ c.write_parts.new.sink.comparison _ (rw (c.new-source.ensures.options, c.new.ensures.layout, c.in-Ok-false.field-0-test) at c.in-Ok-false.ensures.returned) in
+    let (h, quiet) = checked_parts _ _ _ _ _ c.write_parts.new.sink.comparison _ (rw (c.new-source.ensures.options, c.new.ensures.layout, c.in-Ok-false.field-0-test) at c.in-Ok-false.ensures.returned) in
     (h.read, h.whole, (h.items, h.spelled, c.in-None.ensures.same h.read (texts_of h.items) h.compared), quiet)
 
 pub returns-in-Ok-false : goal.returns-in-Ok-false
 returns-in-Ok-false g c =
-    let (h, quiet) = checked_parts _ _ _ _ c.write_parts.new.sink.comparison _ (rw (c.new-source.ensures.options, c.new.ensures.layout, c.in-Ok-false.field-0-test) at c.in-Ok-false.ensures.returned) in
-    check_other g.E.Write.contents c.args.err.now c.write_parts.new.err c.report_other_line.new.err quiet g.T.Item.item_type c.args.name.now (g.R.Read.remaining c.args.reader.now) (g.R.Read.remaining c.write_parts.new.reader) _ c.in-Some.line c.report_other_line.result h
+    let (h, quiet) = checked_parts _ _ _ _ _ c.write_parts.new.sink.comparison _ (rw (c.new-source.ensures.options, c.new.ensures.layout, c.in-Ok-false.field-0-test) at c.in-Ok-false.ensures.returned) in
+    check_other g.E.Write.contents c.args.err.now c.write_parts.new.err c.report_other_line.new.err quiet g.T.Item.item_type c.args.name.now c.args.hints (g.R.Read.remaining c.args.reader.now) (g.R.Read.remaining c.write_parts.new.reader) _ c.in-Some.line c.report_other_line.result h
     (c.in-Some.ensures.differs h.read (texts_of h.items) h.compared) c.report_other_line.ensures
 
 pub returns-in-Err-Input : goal.returns-in-Err-Input
 returns-in-Err-Input g c =
     let e = rw (c.new-source.ensures.options, c.in-Err-Input.field-0-is) at c.in-Err-Input.ensures.returned in
     let quiet = none_reported _ (stream g.E.Write.contents c.args.err.now c.write_parts.new.err) e.0 e.1.1.are (e.2 refl) e.3 in
-    check_fault g.E.Write.contents c.args.err.now c.write_parts.new.err c.report_read_fault.new.err quiet g.T.Item.item_type c.args.name.now (g.R.Read.remaining c.args.reader.now) (g.R.Read.remaining c.write_parts.new.reader) c.in-Err-Input.fault c.report_read_fault.ensures.reported
+    check_fault g.E.Write.contents c.args.err.now c.write_parts.new.err c.report_read_fault.new.err quiet g.T.Item.item_type c.args.name.now c.args.hints (g.R.Read.remaining c.args.reader.now) (g.R.Read.remaining c.write_parts.new.reader) c.in-Err-Input.fault c.report_read_fault.ensures.reported
 
 pub returns : goal.returns
 returns g c =
     let e = rw (c.new-source.ensures.options) at c.in-Err.ensures.returned in
     let quiet = none_reported _ (stream g.E.Write.contents c.args.err.now c.write_parts.new.err) e.0 e.1.1.are (e.2 refl) e.3 in
-    check_memory g.E.Write.contents c.args.err.now c.write_parts.new.err c.report_memory.new.err quiet g.T.Item.item_type c.args.name.now (g.R.Read.remaining c.args.reader.now) (g.R.Read.remaining c.write_parts.new.reader) c.report_memory.ensures.reported
+    check_memory g.E.Write.contents c.args.err.now c.write_parts.new.err c.report_memory.new.err quiet g.T.Item.item_type c.args.name.now c.args.hints (g.R.Read.remaining c.args.reader.now) (g.R.Read.remaining c.write_parts.new.reader) c.report_memory.ensures.reported

@@ -1,4 +1,4 @@
-use Rattle.std.proofs.Common.{rules, ◌≡◌, ℕ, List, [], ◌∷◌, ◌++◌, false, None, Some, refl, sym, ◌∙◌, subst, append-nil, string_bytes}
+use Rattle.std.proofs.Common.{rules, ◌≡◌, ℕ, List, [], ◌∷◌, ◌++◌, false, None, Some, option_map, option_copied, refl, sym, ap, ◌∙◌, subst, append-nil, string_bytes}
 use Rattle.std.proofs.KnownBytes.{Keeps-refl}
 use Rattle.souper_records.proofs.Prelude.{Parse, kind_of}
 use Rattle.souper_stream.specs.Parts.{EndsAfter, starts_of_part}
@@ -64,11 +64,11 @@ returns-in_ok-write_part-in-Err-clause-part g c = λ start ps had.
     let kind : kind_of c.in-Err.error ≡ Parse = search rules in
     let t = c.in-Err.ensures.refused kind start ps had in
     let ends = subst (λ (x : List ℕ). EndsAfter start now x c.is_at_end.result) (done_more ps t.part) (c.is_at_end.ensures k start now (ps ++ t.part ∷ []) (some_parts ps t.part) t.goes_on) in
-    let o : Outcome = record { part = t.part; last = c.is_at_end.result; starts = starts_of_part c.read_part.new.self; items = t.items; refusal = Some c.in-Err.error } in
+    let o : Outcome = record { part = t.part; last = c.is_at_end.result; starts = starts_of_part c.read_part.new.self; items = t.items; refusal = Some (record { error = c.in-Err.error; hint = option_copied c.as_text.result }) } in
     record {
       outcome = o;
       had = t.goes_on;
-      is = record { kind = kind; segment = t.segment; none = t.none; begun = t.begun; now = now; read = t.read; consumed = t.consumed; ends = ends; placed = t.placed; located = t.located; stops = t.stops };
+      is = record { kind = kind; unasked = λ none. c.as_text.ensures ∙ ap (option_map string_bytes) (c.in_ok-hint-in-Err.ensures none); segment = t.segment; none = t.none; begun = t.begun; now = now; read = t.read; consumed = t.consumed; ends = ends; placed = t.placed; located = t.located; stops = t.stops };
       begin = t.begin;
       any = refl;
       after = λ e. record {
@@ -80,5 +80,5 @@ returns-in_ok-write_part-in-Err-clause-part g c = λ start ps had.
         begun = refusal_begun k _ start now ps g.S.Sink.holds c.args.sink.now c.read_part.new.sink c.read_part.new.self c.in-Err.error t;
       };
       are_written = λ first before os h. c.in_ok-write_part-in-Err.ensures.written first before os c.args.sink.now o h c.requires.none (t.taken c.args.sink.now c.requires.none) (sym c.starts-starts-in-Err.ensures) (sym (c.part-text-in-Err.ensures ∙ t.text)) refl;
-      reported = λ works. (let line = string_bytes c.in_ok-shown-in-Err.shown in (line, (line, [], sym (append-nil line), c.in_ok-shown-in-Err.ensures, refl), c.report_line.ensures.given works));
+      reported = λ works. (let lines = string_bytes c.in_ok-lines-in-Err.lines in (lines, (lines, [], sym (append-nil lines), c.in_ok-lines-in-Err.ensures, refl), c.report_line.ensures.given works));
     }

@@ -1,0 +1,392 @@
+//! A task, done for one file after the other.
+
+use crate::differ::{check_diff, check_list};
+use crate::folders::{expand, kind_of_name};
+use crate::hint::{hint, hint_kind};
+use crate::input::Input;
+use crate::losses::say_would_be_lost;
+use crate::objects::end_objects;
+use crate::options::{Action, Task};
+use crate::rewrite::{Rewriting, rewrite};
+use crate::same_file::{FileId, file_id};
+use crate::{failed, out_of_memory};
+use souper_cli::progress::{Meter, Metered};
+use souper_find::answers::write_answers;
+use souper_find::keyed::write_keyed;
+use souper_find::run::{fill_run, find_run, keyed_run};
+use souper_find::search::Search;
+use souper_format::command::Kind;
+use souper_format::watched::Watched;
+use souper_hash::Seed;
+use souper_ir::ast::{LeftHandSide, Replacement, RightHandSide};
+use souper_lookup::store::Store;
+use souper_records::check::check_run;
+use souper_records::layout::Layout;
+use souper_records::objects::write_objects;
+use souper_records::options::ReadOptions;
+use souper_records::output::Output;
+use souper_records::run::{count_run, each_run_with, end_parts, uniq_run_with};
+use souper_records::seen::Seen;
+use souper_records::stop::{ReadFault, Stop};
+use souper_stream::StreamItem;
+use std::alloc::{AllocError, Global};
+use std::cell::Cell;
+use std::fs::File;
+use std::hash::RandomState;
+use std::io::{BufRead, BufReader, ErrorKind, IsTerminal, Write};
+use std::{fs, io};
+
+const STANDARD_INPUT: &str = "(standard input)";
+
+// How many bytes are asked for at a time: as many as a pipe of Linux holds.
+const CAPACITY: usize = 1 << 16;
+
+// The task, and what stays from file to file.
+#[derive(Drop)]
+struct Session<'s, W, E> {
+    rt: &'s HostRuntime,
+    task: &'s Task<'s, 's>,
+
+    // The paths, with the files of a folder in its place.
+    files: &'s [&'s str],
+
+    seen: Seen,
+    store: Store,
+    out: Watched<W>,
+    err: Watched<E>,
+
+    // Whether a parse error was shown.
+    is_refused: &'s Cell<bool>,
+
+    // The file of standard output, if it is written while files are read.
+    output: Option<FileId>,
+}
+
+// Each method returns a status of the program.
+impl<'s, W: Write, E: Write> Session<'s, W, E> {
+    // A stream of items of the type.
+    fn items<T: StreamItem + Drop, R: BufRead>(
+        &mut self,
+        options: ReadOptions<'_>,
+        reader: &mut R,
+    ) -> u8 {
+        let (alloc, name, hints) = (self.rt.alloc(), options.name, options.hints);
+        let (seen, out, err) = (&mut self.seen, &mut self.out, &mut self.err);
+        match self.task.action {
+            Action::Format(Output::Records(layout)) => {
+                each_run_with::<T, R, W, E>(alloc, layout, options, reader, out, err)
+            }
+            Action::Uniq(layout) => {
+                uniq_run_with::<T, R, W, E>(layout, options, seen, reader, out, err)
+            }
+            // The records come at the end.
+            Action::Count(layout, _) => {
+                let layout = Layout {
+                    key: false,
+                    ..layout
+                };
+                let mut none = Watched::new(io::sink());
+                uniq_run_with::<T, R, io::Sink, E>(layout, options, seen, reader, &mut none, err)
+            }
+            Action::Check { diff: false } => {
+                check_run::<T, R, E>(alloc, reader, name, hints, err)
+            }
+            Action::Check { diff: true } => {
+                check_diff::<T, R, W, E>(alloc, reader, name, hints, out, err)
+            }
+            Action::List => check_list::<T, R, W, E>(alloc, reader, name, hints, out, err),
+            Action::Format(Output::Objects { .. })
+            | Action::Write { .. }
+            | Action::Find { .. }
+            | Action::Keyed(_) => 2,
+        }
+    }
+
+    // A stream whose parse errors have objects, and are not reported.
+    fn objects<R: BufRead>(&mut self, kind: Kind, options: ReadOptions<'_>, reader: &mut R) -> u8 {
+        let (alloc, name) = (self.rt.alloc(), options.name);
+        let (rename, store, out) = (self.task.action.renames(), &self.store, &mut self.out);
+        let mut none = Watched::new(io::sink());
+        let parts = match (self.task.action, kind) {
+            (Action::Find { choice, output }, _) => {
+                let search = Search {
+                    store,
+                    choice,
+                    output,
+                };
+                write_answers(alloc, search, options, reader, out, &mut none)
+            }
+            (Action::Keyed(output), _) => write_keyed(
+                alloc, output, options, reader, out, &mut none,
+            ),
+            (_, Kind::Lhs) => write_objects::<LeftHandSide, R, W, io::Sink>(
+                alloc, rename, options, reader, out, &mut none,
+            ),
+            (_, Kind::Rhs) => write_objects::<RightHandSide, R, W, io::Sink>(
+                alloc, rename, options, reader, out, &mut none,
+            ),
+            (_, Kind::Rep) => write_objects::<Replacement, R, W, io::Sink>(
+                alloc, rename, options, reader, out, &mut none,
+            ),
+        };
+        end_objects(alloc, name, parts, out, &mut self.err)
+    }
+
+    fn stream<R: BufRead>(&mut self, kind: Kind, reader: &mut R, name: &str) -> u8 {
+        let alloc = self.rt.alloc();
+        let options = ReadOptions {
+            name,
+            recover: self.task.recovers,
+            line_buffered: self.task.line_buffered,
+            hints: Some(hint_kind(kind)),
+        };
+        if self.task.action.has_objects() {
+            return self.objects(kind, options, reader);
+        }
+        let (store, out, err) = (&self.store, &mut self.out, &mut self.err);
+        match (self.task.action, kind) {
+            (Action::Find { choice, output }, _) => {
+                let search = Search {
+                    store,
+                    choice,
+                    output,
+                };
+                find_run(alloc, search, options, reader, out, err)
+            }
+            (Action::Keyed(output), _) => keyed_run(alloc, output, options, reader, out, err),
+            (_, Kind::Lhs) => self.items::<LeftHandSide, R>(options, reader),
+            (_, Kind::Rhs) => self.items::<RightHandSide, R>(options, reader),
+            (_, Kind::Rep) => self.items::<Replacement, R>(options, reader),
+        }
+    }
+
+    // Reports a fault of an input, which has an object where parse errors have.
+    fn fail(&mut self, name: &str, fault: io::Error) -> u8 {
+        let parts = Err(Stop::Input(ReadFault::Io(fault)));
+        let (alloc, out, err) = (self.rt.alloc(), &mut self.out, &mut self.err);
+        if self.task.action.has_objects() {
+            end_objects(alloc, name, parts, out, err)
+        } else {
+            end_parts(alloc, name, parts, out, err)
+        }
+    }
+
+    // Reports an input that is the output, which would grow while it is read.
+    fn fail_as_output(&mut self, name: &str) -> u8 {
+        let fault = io::Error::new(ErrorKind::InvalidInput, "input file is output file");
+        failed(self.rt.alloc(), name, &fault, &mut self.err)
+    }
+
+    fn is_output(&self, path: &str) -> bool {
+        self.output.is_some() && file_id(self.rt, path) == self.output
+    }
+
+    fn standard_input(&mut self, meter: &mut Meter<'s>) -> u8 {
+        let Some(kind) = self.task.kind else {
+            return 2;
+        };
+        if self.is_output("/dev/stdin") {
+            return self.fail_as_output(STANDARD_INPUT);
+        }
+        meter.begin(STANDARD_INPUT, None);
+        let reader = self.rt.stdin();
+        let input = Input {
+            reader: Metered { reader, meter },
+            nul_ends: self.task.nul_ends,
+        };
+        match BufReader::with_capacity(self.rt.alloc(), CAPACITY, input) {
+            Ok(mut reader) => self.stream(kind, &mut reader, STANDARD_INPUT),
+            Err(_) => out_of_memory(&mut self.err),
+        }
+    }
+
+    fn rewrite(&mut self, kind: Kind, how: Rewriting, meter: &mut Meter<'s>, path: &str) -> u8 {
+        let (rt, err) = (self.rt, &mut self.err);
+        match kind {
+            Kind::Lhs => rewrite::<LeftHandSide, E>(rt, how, meter, path, err),
+            Kind::Rhs => rewrite::<RightHandSide, E>(rt, how, meter, path, err),
+            Kind::Rep => rewrite::<Replacement, E>(rt, how, meter, path, err),
+        }
+    }
+
+    // A file; `-` is standard input.
+    fn file(&mut self, meter: &mut Meter<'s>, path: &'s str) -> u8 {
+        if path == "-" {
+            return self.standard_input(meter);
+        }
+        if self.is_output(path) {
+            return self.fail_as_output(path);
+        }
+        let Some(kind) = self.task.kind.or(kind_of_name(path)) else {
+            let says = "its name ends in none of .lhs, .rhs and .rep";
+            return self.fail(path, io::Error::new(ErrorKind::InvalidInput, says));
+        };
+        self.begin(meter, path);
+        let status = self.read(kind, meter, path);
+        self.end(kind, path);
+        self.end_check(kind, status, path);
+        status
+    }
+
+    fn read(&mut self, kind: Kind, meter: &mut Meter<'s>, path: &str) -> u8 {
+        if let Action::Write { rename, force } = self.task.action {
+            let quiet = self.task.quiet;
+            let how = Rewriting {
+                rename,
+                force,
+                quiet,
+                hints: Some(hint_kind(kind)),
+            };
+            return self.rewrite(kind, how, meter, path);
+        }
+        match open(self.rt, self.task.nul_ends, meter, path) {
+            Ok(mut reader) => self.stream(kind, &mut reader, path),
+            Err(fault) => self.fail(path, fault),
+        }
+    }
+
+    // What `format --write` would not write of a file that is valid and not canonical.
+    fn end_check(&mut self, kind: Kind, status: u8, path: &str) {
+        if matches!(self.task.action, Action::Check { .. })
+            && status == 1
+            && !self.task.quiet
+            && !self.is_refused.get()
+            && len_of(self.rt, path).is_some()
+        {
+            say_would_be_lost(self.rt, kind, path, &mut self.err);
+        }
+    }
+
+    fn begin(&self, meter: &mut Meter<'s>, path: &'s str) {
+        meter.begin(path, len_of(self.rt, path));
+        self.is_refused.set(false);
+    }
+
+    // A hint after a refused file.
+    fn end(&mut self, kind: Kind, path: &str) {
+        if self.is_refused.get() && len_of(self.rt, path).is_some() {
+            hint(self.rt, kind, path, &mut self.err);
+        }
+    }
+
+    // Adds the replacements of a file to the store.
+    fn fill(&mut self, meter: &mut Meter<'s>, path: &'s str) -> u8 {
+        self.begin(meter, path);
+        let (alloc, store, err) = (self.rt.alloc(), &mut self.store, &mut self.err);
+        let status = match open(self.rt, self.task.nul_ends, meter, path) {
+            Ok(mut reader) => fill_run(alloc, store, &mut reader, path, err),
+            Err(fault) => failed(alloc, path, &fault, err),
+        };
+        self.end(Kind::Rep, path);
+        status
+    }
+
+    // The greatest status of the files. It ends after a failed write; what remembers items also ends after status 2. None is read unless
+    // the store has all its replacements.
+    fn read_files(&mut self, meter: &mut Meter<'s>) -> u8 {
+        for path in self.task.stores {
+            let status = self.fill(meter, path);
+            if status != 0 {
+                return status;
+            }
+        }
+        if self.files.is_empty() {
+            return self.standard_input(meter);
+        }
+        let mut status = 0;
+        for path in self.files {
+            if self.out.failed() || status == 2 && self.task.action.remembers() {
+                break;
+            }
+            status = status.max(self.file(meter, path));
+        }
+        status
+    }
+
+    // Progress is shown at a terminal, unless records are written to it.
+    fn run(&mut self, is_shown: &'s Cell<bool>) -> u8 {
+        let rt = self.rt;
+        let shows = !self.task.quiet
+            && rt.stderr().is_terminal()
+            && (self.task.action.is_silent() || !rt.stdout().is_terminal());
+        let mut meter = Meter::new(rt, shows, is_shown);
+        let status = self.read_files(&mut meter);
+        meter.clear();
+        match self.task.action {
+            Action::Count(layout, summary) if status != 2 => status.max(count_run(
+                self.rt.alloc(),
+                layout,
+                summary,
+                &self.seen,
+                &mut self.out,
+                &mut self.err,
+            )),
+            _ => status,
+        }
+    }
+}
+
+// The length of a regular file, in bytes.
+fn len_of(rt: &HostRuntime, path: &str) -> Option<u64> {
+    let metadata = fs::metadata(rt, path).ok()?;
+    metadata.is_file().then_some(metadata.len())
+}
+
+fn open<'m, 'a>(
+    rt: &HostRuntime,
+    nul_ends: bool,
+    meter: &'m mut Meter<'a>,
+    path: &str,
+) -> io::Result<BufReader<Input<Metered<'m, 'a, File>>>> {
+    let reader = File::open(rt, path)?;
+    let reader = Metered { reader, meter };
+    Ok(BufReader::with_capacity(rt.alloc(), CAPACITY, Input { reader, nul_ends })?)
+}
+
+// A seed of random bytes, or a fixed one if the system has none to give.
+fn seed(rt: &HostRuntime) -> Seed {
+    RandomState::new(rt).map_or(Seed::fixed(), Seed::new)
+}
+
+fn paths_of(alloc: Global, files: &[String]) -> Result<Vec<&str>, AllocError> {
+    let mut paths = Vec::with_capacity(alloc, files.len())?;
+    for file in files {
+        paths.push(file.as_str())?;
+    }
+    Ok(paths)
+}
+
+/// Does the task, and returns the status of the program.
+pub(crate) fn run_task<'s, E: Write + Drop>(
+    rt: &'s HostRuntime,
+    task: Task<'s, 's>,
+    is_shown: &'s Cell<bool>,
+    is_refused: &'s Cell<bool>,
+    mut err: Watched<E>,
+) -> u8 {
+    let files = match expand(rt, task.kind, task.files, &mut err) {
+        Ok(files) => files,
+        Err(status) => return status,
+    };
+    let Ok(paths) = paths_of(rt.alloc(), &files) else {
+        return out_of_memory(&mut err);
+    };
+    let output = if task.action.is_silent() {
+        None
+    } else {
+        file_id(rt, "/dev/stdout")
+    };
+    let seed = seed(rt);
+    Session {
+        rt,
+        task: &task,
+        files: paths.as_slice(),
+        seen: Seen::with_seed(rt.alloc(), seed),
+        store: Store::with_seed(rt.alloc(), seed),
+        out: Watched::new(rt.stdout()),
+        err,
+        is_refused,
+        output,
+    }
+    .run(is_shown)
+}
