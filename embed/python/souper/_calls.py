@@ -8,7 +8,8 @@ from typing import Any, NamedTuple
 
 from . import _library
 from ._checks import check_type, documented
-from ._code import decode, encode
+from ._code import encode
+from ._decoder import decode
 from ._errors import Flaw, FlawReason, Location, NotWellFormed, Refused, four_lines
 from ._library import DIFFERENT, DONE, NOT_UTF8, NOT_WELL_FORMED, OUT_OF_MEMORY, REFUSED, SHORT
 from ._library import KEY, NUL, NUMBERS, RENAME, Outcome

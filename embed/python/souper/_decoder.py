@@ -1,0 +1,271 @@
+"""The items of a code, whose values are made when they are first asked for.
+
+`decode` finds where each item ends. For that it matches the code with a pattern that has the common
+forms, and only these; an item of another form is decoded at once, by `CodeReader`.
+"""
+
+from __future__ import annotations
+
+import functools
+import re
+import struct
+from collections.abc import Callable
+from typing import Any, TypeVar
+
+from ._checks import check_type
+from ._code import OPS, CodeReader, Damaged
+from ._errors import NoCode
+from ._values import (
+    Assignment,
+    BlockPc,
+    Coded,
+    Instruction,
+    Item,
+    Kind,
+    Op,
+    Operand,
+    Pc,
+    Rhs,
+    Statement,
+    known_code,
+)
+
+_T = TypeVar("_T")
+
+
+def _size(number: int) -> bytes:
+    return re.escape(number.to_bytes(8, "little"))
+
+
+def _one_of(forms: list[bytes]) -> bytes:
+    return b"(?:" + b"|".join(forms) + b")"
+
+
+def _lists(element: bytes, lengths: range | tuple[int, ...], head: bytes = b"") -> bytes:
+    """Lists of these lengths, of which each element, and what comes before them, has the pattern."""
+    return _one_of([_size(n) + head + element + b"{%d}" % (n - len(head[:1])) for n in lengths])
+
+
+def _instructions() -> bytes:
+    """Instructions with as many operands as each has, the commonest numbers first."""
+    forms = []
+    for arity in (2, 1, 3, 0):
+        ops = b"".join(b"\\x%02x" % op.number for op in Op if op.arity == arity)
+        forms.append(b"[" + ops + b"]" + _size(arity) + _OPERAND * arity)
+    return _one_of(forms)
+
+
+# Patterns of the parts that crates/souper_code/src/lib.rt describes, in the flavor of `re`. No part
+# that has one begins another that has it, so that there is one way to match.
+_WIDTHS = (1, 8, 16, 32, 64, 128)
+_TYPE = rb"(?:\x00|\x01..)"
+_OPERAND = rb"(?:\x00.{8}|\x01.{16}" + _TYPE + b")"
+_NAME = _lists(rb"[0-9A-Za-z_.]", range(2, 41), head=b"%")
+_ATTRIBUTE = rb"(?:\x00" + _lists(rb"[\x00-\x02]", _WIDTHS) + rb"|[\x01-\x05]|\x06.|\x07.{32})"
+_ATTRIBUTES = _lists(_ATTRIBUTE, range(4))
+_PHI = rb"\x02.{8}" + _lists(_OPERAND, range(5))
+_RHS = rb"(?:\x05" + _instructions() + rb"|[\x00\x03\x04]|" + _PHI + rb"|\x01.{4})"
+_CONDITION = rb"(?:\x01|\x02.{12})" + _OPERAND * 2
+_STATEMENT = rb"(?:\x00" + _NAME + _TYPE + _RHS + _ATTRIBUTES + b"|" + _CONDITION + b")"
+_ROOT_ATTRIBUTES = _lists(rb"(?:\x00" + _lists(rb"[\x00\x01]", _WIDTHS) + rb"|\x01)", range(3))
+_INFER = rb".{8}" + _ROOT_ATTRIBUTES
+_LAST_LINES = {
+    Kind.LHS: rb"\x00" + _INFER,
+    Kind.RHS: rb"\x01" + _OPERAND,
+    Kind.REP: rb"(?:\x02" + _INFER + _OPERAND + rb"|\x03" + _OPERAND * 2 + _ROOT_ATTRIBUTES + b")",
+}
+# The parts of a statement that matches: the name and the type, the right side, and the attributes if
+# there are any; or the condition. Where a name ends is clear: no type begins as a name goes on.
+_PARTS = (
+    rb"\x00.{8}(%[0-9A-Za-z_.]+" + _TYPE + b")(" + _RHS + rb")(?:\x00{8}|(" + _ATTRIBUTES + b"))"
+    b"|(" + _CONDITION + b")"
+)
+
+
+@functools.cache
+def _pattern(pattern: bytes) -> re.Pattern[bytes]:
+    """Compiled when it is first wanted."""
+    return re.compile(pattern, re.DOTALL)
+
+
+class _Cutter:
+    """Finds where items of a kind end."""
+
+    def __init__(self, kind: Kind) -> None:
+        self._four = _pattern(_STATEMENT + b"{4}").match
+        self._one = _pattern(_STATEMENT).match
+        self._last = _pattern(_LAST_LINES[kind]).match
+
+    def ends(self, code: bytes, start: int) -> tuple[int, int] | None:
+        """Where the statements and the item end that begin at `start`; `None` if the item has a
+        form without a pattern, or none."""
+        [count] = _U64(code, start)
+        at = start + 8
+        while count:
+            step, match = (4, self._four) if count >= 4 else (1, self._one)
+            found = match(code, at)
+            if found is None:
+                return None
+            at = found.end()
+            count -= step
+        last = self._last(code, at)
+        return None if last is None else (at, last.end())
+
+
+_U64 = struct.Struct("<Q").unpack_from
+_new = object.__new__
+_set_code, _set_end = (Coded.__dict__[name].__set__ for name in ("_code", "_end"))
+_set_statements, _set_ending = (Item.__dict__[name].__set__ for name in ("statements", "ending"))
+
+
+def decode(kind: Kind | str, code: bytes | bytearray | memoryview) -> list[Item]:
+    """The items whose code the bytes are, as `encode` and ``souper_read`` of C write it.
+
+    `NoCode` if the bytes are the code of no list of items of the kind. A length in the code that is
+    larger than the code costs neither time nor memory.
+
+    >>> items = read("lhs", "%x = var infer %x")
+    >>> decode("lhs", encode("lhs", items)) == items
+    True
+    >>> decode("lhs", bytes(8))
+    Traceback (most recent call last):
+        ...
+    souper.NoCode: no code of an item at byte 0, after 0 items
+    """
+    kind = Kind(kind)
+    check_type("code", code, "bytes", bytes, bytearray, memoryview)
+    code = bytes(code)
+    ends_of = _Cutter(kind).ends
+    items: list[Item] = []
+    at = 0
+    while at < len(code):
+        start = at
+        try:
+            ends = ends_of(code, start)
+            item = _new(Item)
+            if ends is None:
+                ends = _decode_at_once(item, kind, code, start)
+        except UnicodeDecodeError as error:
+            raise NoCode(len(items), start) from error
+        except (Damaged, IndexError, struct.error):
+            raise NoCode(len(items), start) from None
+        end, at = ends
+        _set_code(item, code[start:at])
+        _set_end(item, end - start)
+        items.append(item)
+    return items
+
+
+def _decode_at_once(item: Item, kind: Kind, code: bytes, start: int) -> tuple[int, int]:
+    """Gives an item its values. Where its statements and it end."""
+    reader = CodeReader(code, start)
+    _set_statements(item, reader.sequence(reader.statement))
+    end = reader.at
+    _set_ending(item, reader.ending())
+    if item.kind is not kind or reader.at > len(code):
+        raise Damaged
+    return end, reader.at
+
+
+class _Kept(dict[bytes, _T]):
+    """What codes mean. Values are immutable, so that one object serves all that are equal.
+
+    It takes no more than a number of codes, and is emptied when it did not know eight times as many.
+    """
+
+    def __init__(self, make: Callable[[bytes], _T], most: int) -> None:
+        super().__init__()
+        self._make = make
+        self._most = most
+        self._unknown = 0
+
+    def __missing__(self, code: bytes) -> _T:
+        value = self._make(code)
+        if len(self) < self._most:
+            if len(code) < 64:
+                self[code] = value
+            return value
+        self._unknown += 1
+        if self._unknown > 8 * self._most:
+            self.clear()
+            self._unknown = 0
+        return value
+
+
+def _read_by(method: Callable[[CodeReader], _T]) -> Callable[[bytes], _T]:
+    return lambda code: method(CodeReader(code, 0))
+
+
+def _name_and_width(code: bytes) -> tuple[str, int | None]:
+    name, tag, width = code.partition(b"\x01")
+    return (name.decode(), int.from_bytes(width, "little")) if tag else (name[:-1].decode(), None)
+
+
+def _operands(code: bytes, start: int = 8) -> tuple[Operand, ...]:
+    return tuple([_OPERANDS[operand] for operand in _pattern(_OPERAND).findall(code, start)])
+
+
+def _condition(code: bytes) -> Statement:
+    if code[0] == 1:
+        return Pc(*_operands(code, 1))
+    reader = CodeReader(code, 1)
+    return BlockPc(reader.value(), reader.u32(), *_operands(code, 13))
+
+
+class _Assignment:
+    """An `Assignment` whose fields are not set yet: setting frozen fields takes twice as long."""
+
+    __slots__ = ("name", "width", "value", "attributes")
+
+
+class _Instruction:
+    """An `Instruction` whose fields are not set yet."""
+
+    __slots__ = ("op", "operands")
+
+
+def _right_side(code: bytes) -> Rhs:
+    if code[0] != 5:
+        return CodeReader(code, 0).rhs()
+    made: Any = _new(_Instruction)
+    made.op = OPS[code[1]]
+    made.operands = _LISTS[code[2:]]
+    made.__class__ = Instruction
+    rhs: Instruction = made
+    return rhs
+
+
+_NAMES = _Kept(_name_and_width, 4096)
+_OPERANDS = _Kept(_read_by(CodeReader.operand), 4096)
+_LISTS = _Kept(_operands, 16384)
+_RIGHT_SIDES = _Kept(_right_side, 16384)
+_ATTRIBUTE_LISTS = _Kept(_read_by(CodeReader.attributes), 1024)
+_CONDITIONS = _Kept(_condition, 4096)
+_ENDINGS = _Kept(_read_by(CodeReader.ending), 1024)
+
+
+def give_values(item: Item) -> bool:
+    """Gives an item the values of its code, if it has one."""
+    known = known_code(item)
+    if known is None:
+        return False
+    code, end = known
+    statements: list[Statement] = []
+    add = statements.append
+    made: Any
+    for name, rhs, attributes, condition in _pattern(_PARTS).findall(code, 8, end):
+        if condition:
+            add(_CONDITIONS[condition])
+            continue
+        made = _new(_Assignment)
+        made.name, made.width = _NAMES[name]
+        made.value = _RIGHT_SIDES[rhs]
+        made.attributes = _ATTRIBUTE_LISTS[attributes] if attributes else ()
+        made.__class__ = Assignment
+        add(made)
+    _set_statements(item, tuple(statements))
+    _set_ending(item, _ENDINGS[code[end:]])
+    return True
+
+
+Coded._give_values = give_values
