@@ -94,12 +94,17 @@ def _ends_of_chains(item: Item, pairs: Mapping[Value, Operand | int]) -> dict[in
                 chain[position] = None
                 break
             if position in chain:
-                name = getattr(item.statements[position], "name", None)
-                raise ValueError(f"{place(position, name)}: its replacements come back to it")
+                where = place(position, _name(item, position))
+                raise ValueError(f"{where}: its replacements come back to it")
             chain[position] = None
             end = first[position]
         last.update(dict.fromkeys(chain, end))
     return last
+
+
+def _name(item: Item, position: int) -> str | None:
+    statement = item.statements[position] if position < len(item.statements) else None
+    return statement.name if isinstance(statement, Assignment) else None
 
 
 def inserted_before(item: Item, before: Value | int, statement: Statement) -> Item:
