@@ -759,8 +759,8 @@ class ReadItems(unittest.TestCase):
 
     def counted(self) -> mock.Mock:
         """Counts the items that get values, until the test ends."""
-        counted = mock.Mock(side_effect=_values.Coded._give_values)
-        patched = mock.patch.object(_values.Coded, "_give_values", lambda item: counted(item))
+        counted = mock.Mock(side_effect=_values.Coded._values_of_code)
+        patched = mock.patch.object(_values.Coded, "_values_of_code", lambda item: counted(item))
         patched.start()
         self.addCleanup(patched.stop)
         return counted
@@ -872,17 +872,34 @@ class ReadItems(unittest.TestCase):
                 found = list(pool.map(lambda n: (item.ending, item.statements), range(4)))
             self.assertEqual(found, [(item.ending, item.statements)] * 4)
 
-    def test_a_walk_takes_little_beside_the_values(self) -> None:
-        """Items whose values nobody asks for take about the bytes of their code."""
-        text = "".join(f"%x:i8 = var\n%y = add %x, {n}\ninfer %y\n" for n in range(2000))
+    def test_statements_are_dropped_once(self) -> None:
+        items = souper.read("lhs", "%x = var infer %x " * 600)
+        first = items[0].statements
+        counted = self.counted()
+        self.assertIs(items[0].statements, first)
+        for turn, count in enumerate((599, 600, 0)):
+            for item in items[turn == 0 :]:
+                self.assertEqual((item.statements, item.ending), (first, Infer(Value(0))))
+            self.assertLessEqual(counted.call_count, count)
+            counted.reset_mock()
+        self.assertIs(items[0].statements, items[0].statements)
+        # A large item keeps them.
+        [large] = souper.read("lhs", "%x = var " + "pc %x 1 " * 64 + "infer %x")
+        statements = large.statements
+        self.assertEqual(len({item.statements for item in souper.read("rhs", "result 1 " * 600)}), 1)
+        self.assertIs(large.statements, statements)
+
+    def test_a_walk_takes_little_memory(self) -> None:
+        text = "".join(f"%x:i8 = var\n%y = add %x, {n}\ninfer %y\n" for n in range(20_000))
         tracemalloc.start()
         items = souper.read("lhs", text)
         before = tracemalloc.get_traced_memory()[0]
-        self.assertEqual(sum(len(item.statements) for item in items), 4000)
+        self.assertLess(before, 400 * len(items))
+        self.assertEqual(sum(len(item.statements) for item in items), 40_000)
         after = tracemalloc.get_traced_memory()[0]
         tracemalloc.stop()
-        self.assertLess(before, after)
-        self.assertLess(before, 400 * len(items))
+        # What is kept of codes is bounded.
+        self.assertLess(after - before, 12_000_000)
 
 
 class Changes(unittest.TestCase):

@@ -6,9 +6,11 @@ forms, and only these; an item of another form is decoded at once, by `CodeReade
 
 from __future__ import annotations
 
+import contextlib
 import functools
 import re
 import struct
+from collections import deque
 from collections.abc import Callable
 from typing import Any, TypeVar
 
@@ -19,6 +21,7 @@ from ._values import (
     Assignment,
     BlockPc,
     Coded,
+    Ending,
     Instruction,
     Item,
     Kind,
@@ -116,6 +119,7 @@ _U64 = struct.Struct("<Q").unpack_from
 _new = object.__new__
 _set_code, _set_end = (Coded.__dict__[name].__set__ for name in ("_code", "_end"))
 _set_statements, _set_ending = (Item.__dict__[name].__set__ for name in ("statements", "ending"))
+_get_ending, _delete_statements = Item.__dict__["ending"].__get__, Item.__dict__["statements"].__delete__
 
 
 def decode(kind: Kind | str, code: bytes | bytearray | memoryview) -> list[Item]:
@@ -239,17 +243,33 @@ _NAMES = _Kept(_name_and_width, 4096)
 _OPERANDS = _Kept(_read_by(CodeReader.operand), 4096)
 _LISTS = _Kept(_operands, 16384)
 _RIGHT_SIDES = _Kept(_right_side, 16384)
-_ATTRIBUTE_LISTS = _Kept(_read_by(CodeReader.attributes), 1024)
+_ATTRIBUTE_LISTS = _Kept(_read_by(CodeReader.attributes), 4096)
 _CONDITIONS = _Kept(_condition, 4096)
-_ENDINGS = _Kept(_read_by(CodeReader.ending), 1024)
+_ENDINGS = _Kept(_read_by(CodeReader.ending), 4096)
 
 
-def give_values(item: Item) -> bool:
-    """Gives an item the values of its code, if it has one."""
+def values_of_code(item: Item) -> tuple[tuple[Statement, ...], Ending] | None:
+    """The values of an item's code, if it has one. The item keeps them, as `Item` says."""
     known = known_code(item)
     if known is None:
-        return False
+        return None
     code, end = known
+    statements = _statements(code, end)
+    ending = _ENDINGS[code[end:]]
+    is_again = _has_ending(item)
+    _set_statements(item, statements)
+    _set_ending(item, ending)
+    if not is_again and len(statements) <= _SMALL:
+        _RECENT.append(item)
+        if len(_RECENT) > _MOST_RECENT:
+            _drop_statements(_RECENT.popleft())
+    return statements, ending
+
+
+Coded._values_of_code = values_of_code
+
+
+def _statements(code: bytes, end: int) -> tuple[Statement, ...]:
     statements: list[Statement] = []
     add = statements.append
     made: Any
@@ -263,9 +283,26 @@ def give_values(item: Item) -> bool:
         made.attributes = _ATTRIBUTE_LISTS[attributes] if attributes else ()
         made.__class__ = Assignment
         add(made)
-    _set_statements(item, tuple(statements))
-    _set_ending(item, _ENDINGS[code[end:]])
+    return tuple(statements)
+
+
+# The items that made their values last, for the first time. A walk over many items would otherwise
+# fill the memory with values that it is done with. An item that makes its values again keeps them;
+# that it has made them once is known by its last lines, which stay.
+_RECENT: deque[Item] = deque()
+_MOST_RECENT = 256
+_SMALL = 64
+
+
+def _has_ending(item: Item) -> bool:
+    try:
+        _get_ending(item)
+    except AttributeError:
+        return False
     return True
 
 
-Coded._give_values = give_values
+def _drop_statements(item: Item) -> None:
+    # Two threads that made the values at once have noted the item twice.
+    with contextlib.suppress(AttributeError):
+        _delete_statements(item)

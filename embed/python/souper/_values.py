@@ -487,8 +487,8 @@ class Coded:
     """The code of the item."""
     _end: int
     """Where the code of the statements ends."""
-    _give_values: ClassVar[Callable[[Any], bool]]
-    """Gives an item the values of its code, if it has one. It is in `_decoder`."""
+    _values_of_code: ClassVar[Callable[[Any], tuple[Any, Any] | None]]
+    """It is in `_decoder`."""
 
 
 _get_code, _get_end = (Coded.__dict__[name].__get__ for name in ("_code", "_end"))
@@ -510,7 +510,9 @@ def known_code(item: Item) -> tuple[bytes, int] | None:
 class Item(Coded):
     """A left-hand side, a right-hand side or a replacement.
 
-    An item that was read makes its values when they are first asked for.
+    An item that was read makes its values when they are first asked for. Those of up to 64
+    statements are dropped once, when 256 other items have made theirs, and are then made again and
+    kept: a walk over many items takes little memory.
 
     `str` of it is the canonical text, without the newline that `write` writes after it; if it has
     none, `NotWellFormed` or another error of `write`. Jupyter shows its graph, if ``dot`` is there.
@@ -522,10 +524,11 @@ class Item(Coded):
     if not TYPE_CHECKING:
 
         def __getattr__(self, name: str) -> Any:
-            if name not in _FIELDS or not self._give_values():
+            values = self._values_of_code() if name in _FIELDS else None
+            if values is None:
                 message = f"'Item' object has no attribute {name!r}"
                 raise AttributeError(message, name=name, obj=self)
-            return object.__getattribute__(self, name)
+            return values[name == "ending"]
 
     def __str__(self) -> str:
         from ._calls import write
