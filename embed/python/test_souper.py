@@ -2044,6 +2044,11 @@ class Types(unittest.TestCase):
         for item in reader:
             item.ending.value  # error: union-attr
             item.ending = item.ending  # error: misc
+            item.endings  # error: attr-defined
+            positions: tuple[int, ...] = item.users().of(souper.Value(0))
+            changed: souper.Item = item.replace_many({souper.Value(1): 5}).sort().move_before(1, 0)
+            changed.insert_before(0, "%x = var")  # error: arg-type
+            changed.replace_many({0: 1})  # error: dict-item
             if isinstance(item.ending, souper.Infer):
                 print(item.ending.value.position)
         b = souper.Builder()

@@ -99,7 +99,8 @@ def read(kind: Kind | str, text: str | bytes) -> list[Item]:
          |       ^
     """
     kind, data = Kind(kind), _utf8(text)
-    room = 3 * len(data) + 256
+    # A code is rarely more than four times its text.
+    room = 4 * len(data) + len(data) // 2 + 256
     outcome, out = _written(_library.LIBRARY.souper_read, (NUMBERS[kind],), data, room)
     if outcome.status != DONE:
         raise _failure(kind, outcome, data, out)
