@@ -7,8 +7,6 @@ forms, and only these; an item of another form is decoded at once, by `CodeReade
 from __future__ import annotations
 
 import contextlib
-import functools
-import re
 import struct
 from collections import deque
 from collections.abc import Callable
@@ -17,6 +15,7 @@ from typing import Any, TypeVar
 from ._checks import check_type
 from ._code import OPS, CodeReader, Damaged
 from ._errors import NoCode
+from ._patterns import LAST_LINES, OPERAND, PARTS, STATEMENT, compiled
 from ._values import (
     Assignment,
     BlockPc,
@@ -25,7 +24,6 @@ from ._values import (
     Instruction,
     Item,
     Kind,
-    Op,
     Operand,
     Pc,
     Rhs,
@@ -36,68 +34,20 @@ from ._values import (
 _T = TypeVar("_T")
 
 
-def _size(number: int) -> bytes:
-    return re.escape(number.to_bytes(8, "little"))
-
-
-def _one_of(forms: list[bytes]) -> bytes:
-    return b"(?:" + b"|".join(forms) + b")"
-
-
-def _lists(element: bytes, lengths: range | tuple[int, ...], head: bytes = b"") -> bytes:
-    """Lists of these lengths, of which each element, and what comes before them, has the pattern."""
-    return _one_of([_size(n) + head + element + b"{%d}" % (n - len(head[:1])) for n in lengths])
-
-
-def _instructions() -> bytes:
-    """Instructions with as many operands as each has, the commonest numbers first."""
-    forms = []
-    for arity in (2, 1, 3, 0):
-        ops = b"".join(b"\\x%02x" % op.number for op in Op if op.arity == arity)
-        forms.append(b"[" + ops + b"]" + _size(arity) + _OPERAND * arity)
-    return _one_of(forms)
-
-
-# Patterns of the parts that crates/souper_code/src/lib.rt describes, in the flavor of `re`. No part
-# that has one begins another that has it, so that there is one way to match.
-_WIDTHS = (1, 8, 16, 32, 64, 128)
-_TYPE = rb"(?:\x00|\x01..)"
-_OPERAND = rb"(?:\x00.{8}|\x01.{16}" + _TYPE + b")"
-_NAME = _lists(rb"[0-9A-Za-z_.]", range(2, 41), head=b"%")
-_ATTRIBUTE = rb"(?:\x00" + _lists(rb"[\x00-\x02]", _WIDTHS) + rb"|[\x01-\x05]|\x06.|\x07.{32})"
-_ATTRIBUTES = _lists(_ATTRIBUTE, range(4))
-_PHI = rb"\x02.{8}" + _lists(_OPERAND, range(5))
-_RHS = rb"(?:\x05" + _instructions() + rb"|[\x00\x03\x04]|" + _PHI + rb"|\x01.{4})"
-_CONDITION = rb"(?:\x01|\x02.{12})" + _OPERAND * 2
-_STATEMENT = rb"(?:\x00" + _NAME + _TYPE + _RHS + _ATTRIBUTES + b"|" + _CONDITION + b")"
-_ROOT_ATTRIBUTES = _lists(rb"(?:\x00" + _lists(rb"[\x00\x01]", _WIDTHS) + rb"|\x01)", range(3))
-_INFER = rb".{8}" + _ROOT_ATTRIBUTES
-_LAST_LINES = {
-    Kind.LHS: rb"\x00" + _INFER,
-    Kind.RHS: rb"\x01" + _OPERAND,
-    Kind.REP: rb"(?:\x02" + _INFER + _OPERAND + rb"|\x03" + _OPERAND * 2 + _ROOT_ATTRIBUTES + b")",
-}
-# The parts of a statement that matches: the name and the type, the right side, and the attributes if
-# there are any; or the condition. Where a name ends is clear: no type begins as a name goes on.
-_PARTS = (
-    rb"\x00.{8}(%[0-9A-Za-z_.]+" + _TYPE + b")(" + _RHS + rb")(?:\x00{8}|(" + _ATTRIBUTES + b"))"
-    b"|(" + _CONDITION + b")"
-)
-
-
-@functools.cache
-def _pattern(pattern: bytes) -> re.Pattern[bytes]:
-    """Compiled when it is first wanted."""
-    return re.compile(pattern, re.DOTALL)
+_U64 = struct.Struct("<Q").unpack_from
+_new = object.__new__
+_set_code, _set_end = (Coded.__dict__[name].__set__ for name in ("_code", "_end"))
+_set_statements, _set_ending = (Item.__dict__[name].__set__ for name in ("statements", "ending"))
+_get_ending, _delete_statements = Item.__dict__["ending"].__get__, Item.__dict__["statements"].__delete__
 
 
 class _Cutter:
     """Finds where items of a kind end."""
 
     def __init__(self, kind: Kind) -> None:
-        self._four = _pattern(_STATEMENT + b"{4}").match
-        self._one = _pattern(_STATEMENT).match
-        self._last = _pattern(_LAST_LINES[kind]).match
+        self._four = compiled(STATEMENT + b"{4}").match
+        self._one = compiled(STATEMENT).match
+        self._last = compiled(LAST_LINES[kind]).match
 
     def ends(self, code: bytes, start: int) -> tuple[int, int] | None:
         """Where the statements and the item end that begin at `start`; `None` if the item has a
@@ -113,13 +63,6 @@ class _Cutter:
             count -= step
         last = self._last(code, at)
         return None if last is None else (at, last.end())
-
-
-_U64 = struct.Struct("<Q").unpack_from
-_new = object.__new__
-_set_code, _set_end = (Coded.__dict__[name].__set__ for name in ("_code", "_end"))
-_set_statements, _set_ending = (Item.__dict__[name].__set__ for name in ("statements", "ending"))
-_get_ending, _delete_statements = Item.__dict__["ending"].__get__, Item.__dict__["statements"].__delete__
 
 
 def decode(kind: Kind | str, code: bytes | bytearray | memoryview) -> list[Item]:
@@ -206,7 +149,7 @@ def _name_and_width(code: bytes) -> tuple[str, int | None]:
 
 
 def _operands(code: bytes, start: int = 8) -> tuple[Operand, ...]:
-    return tuple([_OPERANDS[operand] for operand in _pattern(_OPERAND).findall(code, start)])
+    return tuple([_OPERANDS[operand] for operand in compiled(OPERAND).findall(code, start)])
 
 
 def _condition(code: bytes) -> Statement:
@@ -273,7 +216,7 @@ def _statements(code: bytes, end: int) -> tuple[Statement, ...]:
     statements: list[Statement] = []
     add = statements.append
     made: Any
-    for name, rhs, attributes, condition in _pattern(_PARTS).findall(code, 8, end):
+    for name, rhs, attributes, condition in compiled(PARTS).findall(code, 8, end):
         if condition:
             add(_CONDITIONS[condition])
             continue
