@@ -760,7 +760,7 @@ class ReadItems(unittest.TestCase):
     def counted(self) -> mock.Mock:
         """Counts the items that get values, until the test ends."""
         counted = mock.Mock(side_effect=_values.Coded._values_of_code)
-        patched = mock.patch.object(_values.Coded, "_values_of_code", lambda item: counted(item))
+        patched = mock.patch.object(_values.Coded, "_values_of_code", counted)
         patched.start()
         self.addCleanup(patched.stop)
         return counted

@@ -6,7 +6,6 @@ forms, and only these; an item of another form is decoded at once, by `CodeReade
 
 from __future__ import annotations
 
-import contextlib
 import struct
 from collections import deque
 from collections.abc import Callable
@@ -28,7 +27,6 @@ from ._values import (
     Pc,
     Rhs,
     Statement,
-    known_code,
 )
 
 _T = TypeVar("_T")
@@ -38,7 +36,8 @@ _U64 = struct.Struct("<Q").unpack_from
 _new = object.__new__
 _set_code, _set_end = (Coded.__dict__[name].__set__ for name in ("_code", "_end"))
 _set_statements, _set_ending = (Item.__dict__[name].__set__ for name in ("statements", "ending"))
-_get_ending, _delete_statements = Item.__dict__["ending"].__get__, Item.__dict__["statements"].__delete__
+_get_code, _get_end = (Coded.__dict__[name].__get__ for name in ("_code", "_end"))
+_delete_statements = Item.__dict__["statements"].__delete__
 
 
 class _Cutter:
@@ -193,23 +192,26 @@ _ENDINGS = _Kept(_read_by(CodeReader.ending), 4096)
 
 def values_of_code(item: Item) -> tuple[tuple[Statement, ...], Ending] | None:
     """The values of an item's code, if it has one. The item keeps them, as `Item` says."""
-    known = known_code(item)
-    if known is None:
+    try:
+        code, end = _get_code(item), _get_end(item)
+    except AttributeError:
         return None
-    code, end = known
+    is_first = end >= 0
+    if not is_first:
+        end = ~end
     statements = _statements(code, end)
     ending = _ENDINGS[code[end:]]
-    is_again = _has_ending(item)
     _set_statements(item, statements)
     _set_ending(item, ending)
-    if not is_again and len(statements) <= _SMALL:
+    if is_first and len(statements) <= _SMALL:
+        _set_end(item, ~end)
         _RECENT.append(item)
         if len(_RECENT) > _MOST_RECENT:
             _drop_statements(_RECENT.popleft())
     return statements, ending
 
 
-Coded._values_of_code = values_of_code
+Coded._values_of_code = staticmethod(values_of_code)
 
 
 def _statements(code: bytes, end: int) -> tuple[Statement, ...]:
@@ -230,22 +232,15 @@ def _statements(code: bytes, end: int) -> tuple[Statement, ...]:
 
 
 # The items that made their values last, for the first time. A walk over many items would otherwise
-# fill the memory with values that it is done with. An item that makes its values again keeps them;
-# that it has made them once is known by its last lines, which stay.
+# fill the memory with values that it is done with. An item that makes its values again keeps them.
 _RECENT: deque[Item] = deque()
-_MOST_RECENT = 256
+_MOST_RECENT = 64
 _SMALL = 64
 
 
-def _has_ending(item: Item) -> bool:
-    try:
-        _get_ending(item)
-    except AttributeError:
-        return False
-    return True
-
-
 def _drop_statements(item: Item) -> None:
-    # Two threads that made the values at once have noted the item twice.
-    with contextlib.suppress(AttributeError):
+    try:
         _delete_statements(item)
+    except AttributeError:
+        # Two threads made the values at once, and noted the item twice.
+        pass

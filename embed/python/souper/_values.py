@@ -486,7 +486,7 @@ class Coded:
     _code: bytes
     """The code of the item."""
     _end: int
-    """Where the code of the statements ends."""
+    """Where the code of the statements ends; its complement, if the values were made before."""
     _values_of_code: ClassVar[Callable[[Any], tuple[Any, Any] | None]]
     """It is in `_decoder`."""
 
@@ -500,9 +500,10 @@ _KINDS = (Kind.LHS, Kind.RHS, Kind.REP, Kind.REP)
 def known_code(item: Item) -> tuple[bytes, int] | None:
     """The code of an item that was decoded, and where the code of its statements ends."""
     try:
-        return _get_code(item), _get_end(item)
+        code, end = _get_code(item), _get_end(item)
     except AttributeError:
         return None
+    return code, end if end >= 0 else ~end
 
 
 @documented(statements="In the order of the text.", ending="The last lines.")
@@ -511,7 +512,7 @@ class Item(Coded):
     """A left-hand side, a right-hand side or a replacement.
 
     An item that was read makes its values when they are first asked for. Those of up to 64
-    statements are dropped once, when 256 other items have made theirs, and are then made again and
+    statements are dropped once, when 64 other items have made theirs, and are then made again and
     kept: a walk over many items takes little memory.
 
     `str` of it is the canonical text, without the newline that `write` writes after it; if it has
@@ -524,7 +525,7 @@ class Item(Coded):
     if not TYPE_CHECKING:
 
         def __getattr__(self, name: str) -> Any:
-            values = self._values_of_code() if name in _FIELDS else None
+            values = Coded._values_of_code(self) if name in _FIELDS else None
             if values is None:
                 message = f"'Item' object has no attribute {name!r}"
                 raise AttributeError(message, name=name, obj=self)
