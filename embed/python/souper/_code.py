@@ -46,6 +46,7 @@ from ._values import (
     Statement,
     Value,
     Var,
+    kind_of_code,
     known_code,
 )
 
@@ -415,10 +416,6 @@ class _Writer:
                 raise TypeError(f"ending is {ending!r}, which is no last line")
 
     def item(self, kind: Kind, item: Item) -> None:
-        known = known_code(item)
-        if known is not None and item.kind is kind:
-            self.code += known[0]
-            return
         self.place = None
         statements = item.statements
         check_type("statements", statements, "a tuple", tuple, list)
@@ -465,8 +462,11 @@ def encode(kind: Kind | str, items: Iterable[Item]) -> bytes:
     check_type("items", items, "an iterable of items", Iterable)
     writer = _Writer()
     for index, item in enumerate(items):
-        if not isinstance(item, Item):
-            check_type(f"items[{index}]", item, "an Item", Item)
+        known = known_code(item)
+        if known is not None and kind_of_code(*known) is kind:
+            writer.code += known[0]
+            continue
+        check_type(f"items[{index}]", item, "an Item", Item)
         try:
             writer.item(kind, item)
         except (TypeError, ValueError) as error:

@@ -497,13 +497,18 @@ _FIELDS = ("statements", "ending")
 _KINDS = (Kind.LHS, Kind.RHS, Kind.REP, Kind.REP)
 
 
-def known_code(item: Item) -> tuple[bytes, int] | None:
+def known_code(item: object) -> tuple[bytes, int] | None:
     """The code of an item that was decoded, and where the code of its statements ends."""
     try:
         code, end = _get_code(item), _get_end(item)
-    except AttributeError:
+    except (AttributeError, TypeError):
         return None
     return code, end if end >= 0 else ~end
+
+
+def kind_of_code(code: bytes, end: int) -> Kind:
+    """The kind of an item, by its code and where the code of its statements ends."""
+    return _KINDS[code[end]]
 
 
 @documented(statements="In the order of the text.", ending="The last lines.")
@@ -580,8 +585,7 @@ class Item(Coded):
         """The kind of an item with these last lines."""
         known = known_code(self)
         if known is not None:
-            code, end = known
-            return _KINDS[code[end]]
+            return kind_of_code(*known)
         match self.ending:
             case Infer():
                 return Kind.LHS
