@@ -116,7 +116,7 @@ def _decode_at_once(item: Item, kind: Kind, code: bytes, start: int) -> tuple[in
 class _Kept(dict[bytes, _T]):
     """What codes mean. Values are immutable, so that one object serves all that are equal.
 
-    It takes no more than a number of codes, and is emptied when it did not know eight times as many.
+    It has room for a number of codes, and is emptied when it did not know eight times as many.
     """
 
     def __init__(self, make: Callable[[bytes], _T], most: int) -> None:

@@ -77,7 +77,7 @@ def with_replaced(item: Item, pairs: Mapping[Value, Operand | int]) -> Item:
 
 
 def _ends_of_chains(item: Item, pairs: Mapping[Value, Operand | int]) -> dict[int, Operand]:
-    """What comes in the place of each value, by its position, where the last one is not replaced."""
+    """What comes in the place of each value in the end, by its position."""
     check_type("pairs", pairs, "a mapping", Mapping)
     first: dict[int, Operand] = {}
     for of, by in pairs.items():
@@ -130,7 +130,7 @@ def sorted_item(item: Item) -> Item:
 
 
 def _order(statements: tuple[Statement, ...]) -> list[int]:
-    """An order in which each assignment stands before its uses: a walk in depth, from each in turn."""
+    """An order with each assignment before its uses: a walk in depth, from each in turn."""
     order: list[int] = []
     seen = [False] * len(statements)
     for start in range(len(statements)):

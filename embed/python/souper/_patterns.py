@@ -1,7 +1,7 @@
 """Patterns, in the syntax of `re`, of the common forms of the parts of a code.
 
-crates/souper_code/src/lib.rt describes the parts. What matches a pattern is the code of such a part,
-and does not begin another that matches it, so that there is one way to match.
+crates/souper_code/src/lib.rt describes the parts. What matches a pattern is the code of such a
+part, and does not begin another that matches it, so that there is one way to match.
 """
 
 from __future__ import annotations
@@ -51,8 +51,8 @@ LAST_LINES = {
     Kind.RHS: rb"\x01" + OPERAND,
     Kind.REP: rb"(?:\x02" + _INFER + OPERAND + rb"|\x03" + OPERAND * 2 + _ROOT_ATTRIBUTES + b")",
 }
-# The parts of a statement that matches: the name and the type, the right side, and the attributes if
-# there are any; or the condition. Where a name ends is clear: no type begins as a name goes on.
+# The parts of a statement that matches: the name and the type, the right side, and the attributes
+# if there are any; or the condition. Where a name ends is clear: its characters begin no type.
 PARTS = (
     rb"\x00.{8}(%[0-9A-Za-z_.]+" + _TYPE + b")(" + _RHS + rb")(?:\x00{8}|(" + _ATTRIBUTES + b"))"
     b"|(" + _CONDITION + b")"
