@@ -119,7 +119,7 @@ class _Kept(dict[bytes, _T]):
     It has room for a number of codes, and is emptied when it did not know eight times as many.
     """
 
-    def __init__(self, make: Callable[[bytes], _T], most: int) -> None:
+    def __init__(self, make: Callable[[bytes], _T], most: int = 4096) -> None:
         super().__init__()
         self._make = make
         self._most = most
@@ -181,13 +181,13 @@ def _right_side(code: bytes) -> Rhs:
     return rhs
 
 
-_NAMES = _Kept(_name_and_width, 4096)
-_OPERANDS = _Kept(_read_by(CodeReader.operand), 4096)
-_LISTS = _Kept(_operands, 16384)
-_RIGHT_SIDES = _Kept(_right_side, 16384)
-_ATTRIBUTE_LISTS = _Kept(_read_by(CodeReader.attributes), 4096)
-_CONDITIONS = _Kept(_condition, 4096)
-_ENDINGS = _Kept(_read_by(CodeReader.ending), 4096)
+_NAMES = _Kept(_name_and_width)
+_OPERANDS = _Kept(_read_by(CodeReader.operand))
+_LISTS = _Kept(_operands)
+_RIGHT_SIDES = _Kept(_right_side)
+_ATTRIBUTE_LISTS = _Kept(_read_by(CodeReader.attributes))
+_CONDITIONS = _Kept(_condition)
+_ENDINGS = _Kept(_read_by(CodeReader.ending))
 
 
 def values_of_code(item: Item) -> tuple[tuple[Statement, ...], Ending] | None:
