@@ -485,64 +485,357 @@ template <typename Visit> void for_each_operand(const statement &s, Visit visit)
 /// The same with operands that `visit` may change.
 template <typename Visit> void for_each_operand(statement &s, Visit visit) { detail::visit_operands(s, visit); }
 
-/// Calls `visit` with the id of each use of a statement, in order: the block of a phi or `blockpc`, and then the operands from
-/// left to right. Constants are no uses.
-template <typename Visit> void for_each_use(const statement &s, Visit visit) {
-    if (const auto *on_block = std::get_if<blockpc>(&s)) {
+namespace detail {
+
+// Calls `visit` with the id that an operand is, if it is one.
+template <typename Operand, typename Visit> void visit_id(Operand &o, Visit &visit) {
+    if (auto *used = std::get_if<id>(&o)) {
+        visit(*used);
+    }
+}
+
+// Calls `visit` with each id of a statement, or of last lines. These may be const.
+template <typename Statement, typename Visit> void visit_ids(Statement &s, Visit &visit) {
+    if (auto *on_block = std::get_if<blockpc>(&s)) {
         visit(on_block->block);
-    } else if (const auto *assigned = std::get_if<assignment>(&s)) {
-        if (const auto *choice = std::get_if<phi>(&assigned->value)) {
+    } else if (auto *assigned = std::get_if<assignment>(&s)) {
+        if (auto *choice = std::get_if<phi>(&assigned->value)) {
             visit(choice->block);
         }
     }
-    for_each_operand(s, [&visit](const operand &o) {
-        if (const id *used = std::get_if<id>(&o)) {
-            visit(*used);
-        }
-    });
+    const auto visit_used = [&visit](auto &o) { visit_id(o, visit); };
+    visit_operands(s, visit_used);
 }
 
-namespace detail {
-
-inline void replace_use(operand &o, id of, const operand &by) noexcept {
-    if (o == operand(of)) {
-        o = by;
-    }
-}
-
-// An infer line has a value, and keeps it where a constant would take its place.
-inline void replace_use(infer &line, id of, const operand &by) noexcept {
-    const id *value = std::get_if<id>(&by);
-    if (line.value == of && value != nullptr) {
-        line.value = *value;
+template <typename Lines, typename Visit> void visit_last_ids(Lines &lines, Visit &visit) {
+    if (auto *lhs = std::get_if<infer>(&lines)) {
+        visit(lhs->value);
+    } else if (auto *rhs = std::get_if<result>(&lines)) {
+        visit_id(rhs->value, visit);
+    } else if (auto *both = std::get_if<infer_result>(&lines)) {
+        visit(both->replaced.value);
+        visit_id(both->by.value, visit);
+    } else if (auto *pair = std::get_if<cand>(&lines)) {
+        visit_id(pair->replaced, visit);
+        visit_id(pair->by, visit);
     }
 }
 
 } // namespace detail
 
+/// Calls `visit` with the id of each use of a statement, in order: the block of a phi or `blockpc`, and then the operands from
+/// left to right. Constants are no uses.
+template <typename Visit> void for_each_use(const statement &s, Visit visit) { detail::visit_ids(s, visit); }
+
+/// Calls `visit` with the id of each use of last lines, in order.
+template <typename Visit> void for_each_use(const last_lines &lines, Visit visit) { detail::visit_last_ids(lines, visit); }
+
+/// What uses each statement of an item, made once, in time linear in the item. It does not follow changes of the item.
+class users {
+public:
+    /// Some statements, by their ids.
+    class list {
+    public:
+        list(const id *from, const id *to) noexcept : first(from), past(to) {}
+
+        const id *begin() const noexcept { return first; }
+        const id *end() const noexcept { return past; }
+        std::size_t size() const noexcept { return static_cast<std::size_t>(past - first); }
+        bool empty() const noexcept { return first == past; }
+        id operator[](std::size_t index) const noexcept { return first[index]; }
+
+    private:
+        const id *first, *past;
+    };
+
+    explicit users(const item &i) : ends(i.statements.size()), in_last(i.statements.size()) {
+        visit(i, [this](std::size_t used, id) { ends[used]++; });
+        std::size_t total = 0;
+        for (std::size_t &end : ends) {
+            total += std::exchange(end, total);
+        }
+        all.resize(total);
+        visit(i, [this](std::size_t used, id user) { all[ends[used]++] = user; });
+        for_each_use(i.last, [this](id used) {
+            if (used.position < in_last.size()) {
+                in_last[used.position] = true;
+            }
+        });
+    }
+
+    /// The statements that use the one at a position, each once, in their order.
+    list of(id used) const noexcept {
+        if (used.position >= ends.size()) {
+            return {nullptr, nullptr};
+        }
+        return {all.data() + (used.position > 0 ? ends[used.position - 1] : 0), all.data() + ends[used.position]};
+    }
+
+    /// Whether a last line uses the statement at a position.
+    bool in_last_lines(id used) const noexcept { return used.position < in_last.size() && in_last[used.position]; }
+
+private:
+    // Calls `take` with each statement that is used and each of its users.
+    template <typename Take> static void visit(const item &i, Take take) {
+        std::vector<std::size_t> user_of(i.statements.size(), SIZE_MAX); // the last that was seen
+        for (std::size_t user = 0; user < i.statements.size(); user++) {
+            for_each_use(i.statements[user], [&](id used) {
+                if (used.position < user_of.size() && std::exchange(user_of[used.position], user) != user) {
+                    take(used.position, id{user});
+                }
+            });
+        }
+    }
+
+    std::vector<std::size_t> ends; // where the users of each statement end in `all`
+    std::vector<id> all;
+    std::vector<bool> in_last;
+};
+
+namespace detail {
+
+// `other` returns what comes in the place of a value, or null.
+template <typename Other> void replace_use(operand &o, const Other &other) {
+    const id *used = std::get_if<id>(&o);
+    if (const operand *by = used != nullptr ? other(*used) : nullptr) {
+        o = operand(*by);
+    }
+}
+
+// An infer line has a value, and keeps it where a constant would take its place.
+template <typename Other> void replace_use(infer &line, const Other &other) {
+    const operand *by = other(line.value);
+    if (const id *value = by != nullptr ? std::get_if<id>(by) : nullptr) {
+        line.value = *value;
+    }
+}
+
+template <typename Other> void replace_uses(statement &s, const Other &other) {
+    for_each_operand(s, [&other](operand &o) { replace_use(o, other); });
+}
+
+template <typename Other> void replace_uses(item &i, const Other &other) {
+    for (statement &s : i.statements) {
+        replace_uses(s, other);
+    }
+    if (auto *lhs = std::get_if<infer>(&i.last)) {
+        replace_use(*lhs, other);
+    } else if (auto *rhs = std::get_if<result>(&i.last)) {
+        replace_use(rhs->value, other);
+    } else if (auto *both = std::get_if<infer_result>(&i.last)) {
+        replace_use(both->replaced, other);
+        replace_use(both->by.value, other);
+    } else if (auto *pair = std::get_if<cand>(&i.last)) {
+        replace_use(pair->replaced, other);
+        replace_use(pair->by, other);
+    }
+}
+
+// What comes in the place of many values.
+class replacements {
+public:
+    // Of pairs of an id and an operand, such as a map has. A value by itself stays, and an id past the end is none.
+    template <typename Pairs> replacements(const Pairs &pairs, std::size_t count) : to(count, nullptr) {
+        static_assert(std::is_lvalue_reference_v<decltype(*std::begin(pairs))>, "the pairs are to be in memory");
+        for (const auto &[of, by] : pairs) {
+            if (of.position < count) {
+                to[of.position] = by == operand(of) ? nullptr : &by;
+            }
+        }
+    }
+
+    // Lets each chain end: where a comes by b and b by c, a comes by c. If a chain comes back to a value, the value's position.
+    std::optional<std::size_t> follow() {
+        std::vector<std::size_t> begin_of(to.size(), SIZE_MAX), chain;
+        for (std::size_t begin = 0; begin < to.size(); begin++) {
+            chain.clear();
+            std::size_t at = begin;
+            while (is_replaced(at) && begin_of[at] == SIZE_MAX) {
+                begin_of[at] = begin;
+                chain.push_back(at);
+                const id *next = std::get_if<id>(to[at]);
+                at = next != nullptr ? next->position : SIZE_MAX;
+            }
+            if (chain.empty()) {
+                continue;
+            }
+            if (is_replaced(at) && begin_of[at] == begin) {
+                return at;
+            }
+            const operand *end = to[is_replaced(at) ? at : chain.back()];
+            for (const std::size_t value : chain) {
+                to[value] = end;
+            }
+        }
+        return std::nullopt;
+    }
+
+    const operand *operator()(id of) const noexcept { return of.position < to.size() ? to[of.position] : nullptr; }
+
+private:
+    bool is_replaced(std::size_t position) const noexcept { return position < to.size() && to[position] != nullptr; }
+
+    std::vector<const operand *> to;
+};
+
+} // namespace detail
+
 /// Puts `by` in the place of each operand of the statement that is the value `of`. Nothing else changes.
 inline void replace_uses(statement &s, id of, operand by) noexcept {
-    for_each_operand(s, [of, &by](operand &o) { detail::replace_use(o, of, by); });
+    detail::replace_uses(s, [of, &by](id used) { return used == of ? &by : nullptr; });
 }
 
 /// Puts `by` in the place of each operand of the item that is the value `of`, also in the last lines. An infer line has a value,
 /// and keeps it if `by` is a constant. Nothing else changes: the blocks of phis and `blockpc`s are no operands. `write` says
 /// whether the item is well formed then.
 inline void replace_uses(item &i, id of, operand by) noexcept {
+    detail::replace_uses(i, [of, &by](id used) { return used == of ? &by : nullptr; });
+}
+
+// ----------------------------------------------------------------
+// The order of statements
+//
+// An id is a position, so these calls renumber the uses of statements that move, in the statements and the last lines. Ids that the
+// program has itself are as before. An assignment whose name is empty gets a name as from a `builder`.
+
+namespace detail {
+
+// The number that a made name has: digits without a zero in front.
+inline std::optional<std::size_t> number_of(std::string_view name) noexcept {
+    if (name.size() < 2 || name.size() > 19 || name[0] != '%' || (name[1] == '0' && name.size() > 2)) {
+        return std::nullopt;
+    }
+    std::size_t number = 0;
+    for (const char digit : name.substr(1)) {
+        if (digit < '0' || digit > '9') {
+            return std::nullopt;
+        }
+        number = 10 * number + static_cast<unsigned char>(digit - '0');
+    }
+    return number;
+}
+
+// Gives each assignment without a name `%` and its position, or the next number that no name has.
+inline void make_names(std::vector<statement> &all) {
+    const auto name_of = [](statement &s) {
+        auto *assigned = std::get_if<assignment>(&s);
+        return assigned != nullptr ? &assigned->name : nullptr;
+    };
+    const auto is_unnamed = [name_of](statement &s) { return name_of(s) != nullptr && name_of(s)->empty(); };
+    if (std::none_of(all.begin(), all.end(), is_unnamed)) {
+        return;
+    }
+    std::unordered_set<std::size_t> given;
+    for (statement &s : all) {
+        const auto number = name_of(s) != nullptr ? number_of(*name_of(s)) : std::nullopt;
+        if (number) {
+            given.insert(*number);
+        }
+    }
+    std::size_t next = 0;
+    for (std::size_t position = 0; position < all.size(); position++) {
+        if (is_unnamed(all[position])) {
+            for (next = std::max(next, position); given.count(next) != 0; next++) {
+            }
+            *name_of(all[position]) = "%" + std::to_string(next++);
+        }
+    }
+}
+
+// Puts `number(used)` in the place of each id of the item.
+template <typename Number> void renumber(item &i, const Number &number) {
+    const auto change = [&number](id &used) { used = number(used); };
     for (statement &s : i.statements) {
-        replace_uses(s, of, by);
+        visit_ids(s, change);
     }
-    if (auto *lhs = std::get_if<infer>(&i.last)) {
-        detail::replace_use(*lhs, of, by);
-    } else if (auto *rhs = std::get_if<result>(&i.last)) {
-        detail::replace_use(rhs->value, of, by);
-    } else if (auto *both = std::get_if<infer_result>(&i.last)) {
-        detail::replace_use(both->replaced, of, by);
-        detail::replace_use(both->by.value, of, by);
-    } else if (auto *pair = std::get_if<cand>(&i.last)) {
-        detail::replace_use(pair->replaced, of, by);
-        detail::replace_use(pair->by, of, by);
+    visit_last_ids(i.last, change);
+}
+
+// The positions of the statements in an order in which each assignment stands before its uses: a walk in depth, from each in turn.
+inline std::vector<std::size_t> sorted(const std::vector<statement> &all) {
+    struct step {
+        std::size_t position;
+        bool uses_are_done;
+    };
+    std::vector<std::size_t> order;
+    order.reserve(all.size());
+    std::vector<bool> seen(all.size());
+    std::vector<step> path;
+    for (std::size_t from = 0; from < all.size(); from++) {
+        path.push_back({from, false});
+        while (!path.empty()) {
+            const step top = path.back();
+            path.pop_back();
+            if (top.uses_are_done) {
+                order.push_back(top.position);
+            } else if (!seen[top.position]) {
+                seen[top.position] = true;
+                path.push_back({top.position, true});
+                const std::size_t begin = path.size();
+                for_each_use(all[top.position], [&](id used) {
+                    if (used.position < all.size() && !seen[used.position] && std::holds_alternative<assignment>(all[used.position])) {
+                        path.push_back({used.position, false});
+                    }
+                });
+                std::reverse(path.begin() + static_cast<std::ptrdiff_t>(begin), path.end());
+            }
+        }
     }
+    return order;
+}
+
+} // namespace detail
+
+/// Puts each assignment before the statements that use it, so that a pass may append statements at the end and then call this. A
+/// statement that stands too late comes right before the first that uses it, and the order of the others stays. Where statements use one
+/// another in a cycle, a use before its definition remains. Returns the new id of each statement, by its position before. It takes time
+/// linear in the item, without recursion.
+inline std::vector<id> sort(item &i) {
+    const std::vector<std::size_t> order = detail::sorted(i.statements);
+    std::vector<id> ids(order.size());
+    std::vector<statement> all;
+    all.reserve(order.size());
+    for (std::size_t position = 0; position < order.size(); position++) {
+        ids[order[position]] = id{position};
+        all.push_back(std::move(i.statements[order[position]]));
+    }
+    i.statements = std::move(all);
+    detail::renumber(i, [&ids](id used) { return used.position < ids.size() ? ids[used.position] : used; });
+    detail::make_names(i.statements);
+    return ids;
+}
+
+/// Inserts a statement before the one at `place`, or at the end if there is none. Returns its id. The statements from `place` on are at
+/// the next position then. The ids in the statement are, as `place` is, those from before. It takes time linear in the item: to insert
+/// many, append them and call `sort`.
+inline id insert_before(item &i, id place, statement inserted) {
+    const id at{std::min(place.position, i.statements.size())};
+    i.statements.push_back(std::move(inserted));
+    detail::renumber(i, [at](id used) {
+        return used.position < at.position || used.position == SIZE_MAX ? used : id{used.position + 1};
+    });
+    std::rotate(i.statements.begin() + static_cast<std::ptrdiff_t>(at.position), i.statements.end() - 1, i.statements.end());
+    detail::make_names(i.statements);
+    return at;
+}
+
+/// Moves the statement `which` before the one at `place`, or to the end if there is none. Returns its new id. The statements between
+/// the two places move by one position. It takes time linear in the item.
+inline id move_before(item &i, id which, id place) {
+    const std::size_t count = i.statements.size(), from = which.position, to = std::min(place.position, count);
+    if (from >= count || to == from || to == from + 1) {
+        return which;
+    }
+    const std::size_t low = std::min(from, to), high = std::max(from + 1, to), at = to < from ? to : to - 1;
+    const auto first = i.statements.begin();
+    const auto position = [first](std::size_t offset) { return first + static_cast<std::ptrdiff_t>(offset); };
+    std::rotate(position(low), position(to < from ? from : from + 1), position(high));
+    detail::renumber(i, [=](id used) {
+        const bool moves = low <= used.position && used.position < high;
+        return used.position == from ? id{at} : !moves ? used : id{to < from ? used.position + 1 : used.position - 1};
+    });
+    detail::make_names(i.statements);
+    return id{at};
 }
 
 // ----------------------------------------------------------------
@@ -715,12 +1008,15 @@ enum class status : std::uint32_t {
     no_code = SOUPER_NO_CODE,
     not_well_formed = SOUPER_NOT_WELL_FORMED,
     no_flags = SOUPER_NO_FLAGS,
-    stream_ended = 1000 ///< of a `reader`: `finish` came before, or bytes that are not UTF-8
+    stream_ended = 1000, ///< of a `reader`: `finish` came before, or bytes that are not UTF-8
+    cycle                ///< of `replace_uses`: the replacements of a value come back to it
 };
 
 inline std::string to_string(status s) {
     const auto number = static_cast<std::uint32_t>(s);
-    const std::string_view text = s == status::stream_ended ? "the stream has ended" : souper_status_text(number);
+    const std::string_view text = s == status::stream_ended ? "the stream has ended"
+                                  : s == status::cycle      ? "the replacements of a value come back to it"
+                                                            : souper_status_text(number);
     return text == "unknown" ? detail::unknown(number) : std::string(text);
 }
 
@@ -838,7 +1134,7 @@ struct location {
 struct error {
     status what = status::done;
     unsigned input = 0;     ///< refused, not_utf8: which text of the call, 0 the first, 1 the second
-    std::size_t index = 0;  ///< no_code, not_well_formed: which item, from 0
+    std::size_t index = 0;  ///< no_code, not_well_formed: which item, from 0; cycle: the position of such a value
     std::size_t offset = 0; ///< refused: how many bytes were read; no_code, not_well_formed: where the code of the item begins;
                             ///< not_utf8 of a stream: where the first byte is that is in no character
     std::size_t line = 0;   ///< refused: the line of the last of these bytes, or of the first byte if there is none; not_utf8 of a
@@ -900,6 +1196,8 @@ inline std::string message_of(const error &e) {
         return bad_code_text(e.offset, e.why);
     case status::not_well_formed:
         return not_well_formed_text(e.index, e.why);
+    case status::cycle:
+        return "statement " + std::to_string(e.index) + ": " + to_string(e.what);
     case status::stream_ended:
         return to_string(e.what);
     case status::out_of_memory:
@@ -1039,24 +1337,8 @@ private:
         return all += name;
     }
 
-    // The number that a made name has: digits without a zero in front.
-    static std::optional<std::size_t> number_of(std::string_view name) noexcept {
-        name.remove_prefix(1);
-        if (name.empty() || name.size() > 18 || (name.front() == '0' && name.size() > 1)) {
-            return std::nullopt;
-        }
-        std::size_t number = 0;
-        for (const char digit : name) {
-            if (digit < '0' || digit > '9') {
-                return std::nullopt;
-            }
-            number = 10 * number + static_cast<unsigned char>(digit - '0');
-        }
-        return number;
-    }
-
     bool is_new(const std::string &name) const {
-        const auto number = number_of(name);
+        const auto number = detail::number_of(name);
         return given_names.count(name) == 0 && !(number && made_names.count(*number) != 0);
     }
 
@@ -1939,6 +2221,21 @@ inline namespace SOUPER_FORM {
     return detail::guarded(items, e, [&](auto &o, error &why) { return detail::decode(k, code, o, why); });
 }
 
+/// See `replace_uses`.
+template <typename Pairs> [[nodiscard]] bool try_replace_uses(item &i, const Pairs &pairs, error &e) noexcept {
+    bool done = false;
+    return detail::guarded(done, e, [&](bool &, error &why) {
+        detail::replacements all(pairs, i.statements.size());
+        if (const auto value = all.follow()) {
+            why.what = status::cycle;
+            why.index = *value;
+            return false;
+        }
+        detail::replace_uses(i, all);
+        return true;
+    });
+}
+
 /// What `write` returns. If it is not done, nothing is printed, and the stream fails.
 inline std::ostream &operator<<(std::ostream &out, const item &one) {
     std::string text;
@@ -2030,6 +2327,7 @@ namespace detail {
         throw e.line > 0 ? not_utf8(e.offset, e.line) : not_utf8(e.input);
     case status::no_kind:
     case status::no_flags:
+    case status::cycle:
         throw std::invalid_argument(e.message);
     case status::no_code:
         throw bad_code(e.index, e.offset, e.why);
@@ -2126,6 +2424,13 @@ inline std::vector<record> records(kind k, std::string_view text, bool rename = 
 inline std::vector<std::vector<std::string>> find(std::string_view store, std::string_view queries) {
     return detail::output<std::vector<std::vector<std::string>>>(
         [&](std::vector<std::vector<std::string>> &out, error &e) { return try_find(store, queries, out, e); });
+}
+
+/// Puts an operand in the place of each use of each value that `pairs` has, such as a `std::map<id, operand>`, in one walk, as the other
+/// `replace_uses` does of one value. What comes in the place of a value is replaced in turn: of a by b and b by 5, both become 5. Throws
+/// `std::invalid_argument`, and nothing changes, if this comes back to a value; a value by itself stays.
+template <typename Pairs> void replace_uses(item &i, const Pairs &pairs) {
+    detail::output<bool>([&](bool &, error &e) { return try_replace_uses(i, pairs, e); });
 }
 
 /// The code of items, which `decode` and souper_write read. Throws `not_well_formed` if an item has a value without a code: the reasons
