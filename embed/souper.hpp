@@ -639,7 +639,8 @@ public:
         static_assert(std::is_lvalue_reference_v<decltype(*std::begin(pairs))>, "the pairs are to be in memory");
         for (const auto &[of, by] : pairs) {
             if (of.position < count) {
-                to[of.position] = by == operand(of) ? nullptr : &by;
+                const id *other = std::get_if<id>(&by);
+                to[of.position] = other != nullptr && *other == of ? nullptr : &by;
             }
         }
     }
