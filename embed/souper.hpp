@@ -991,6 +991,13 @@ inline std::string escaped(std::string_view text) {
 }
 
 inline bool is_utf8(std::string_view text) noexcept {
+    unsigned char all = 0;
+    for (const char byte : text) {
+        all |= static_cast<unsigned char>(byte);
+    }
+    if (all < 0x80) {
+        return true;
+    }
     for (std::size_t length = 1; !text.empty() && length > 0; text.remove_prefix(length)) {
         length = character(text);
     }
@@ -1418,7 +1425,53 @@ inline std::string operand_count_text(const instruction &i) {
 
 inline std::string other_kind_text(kind is, kind wanted) { return "the item is of the kind " + to_string(is) + ", not " + to_string(wanted); }
 
-// Appends the code of items, or of their parts.
+// Bytes that grow at their end. They are not set before they are written.
+class buffer {
+public:
+    std::size_t size() const noexcept { return used; }
+    void keep(std::size_t count) noexcept { used = count; }
+    std::string_view view() const noexcept { return {used > 0 ? bytes.get() : "", used}; }
+    void clear() noexcept { keep(0); }
+
+    // Makes room for so many bytes.
+    void need(std::size_t count) {
+        if (room - used < count) {
+            grow(count);
+        }
+    }
+
+    // Where bytes may be written for which there is room; `wrote` says how many were.
+    std::uint8_t *end() const noexcept { return reinterpret_cast<std::uint8_t *>(bytes.get()) + used; }
+    void wrote(std::size_t count) noexcept { used += count; }
+
+    // Appends bytes for which there is room.
+    void append(std::string_view text) noexcept {
+        std::memcpy(bytes.get() + used, text.data(), text.size());
+        used += text.size();
+    }
+
+    template <typename T> void put(T value) noexcept {
+        std::memcpy(bytes.get() + used, &value, sizeof value);
+        used += sizeof value;
+    }
+
+private:
+    void grow(std::size_t count) {
+        const std::size_t wanted = used + std::max(count, used);
+        std::unique_ptr<char[]> more(new char[wanted]);
+        if (used > 0) {
+            std::memcpy(more.get(), bytes.get(), used);
+        }
+        bytes = std::move(more);
+        room = wanted;
+    }
+
+    std::unique_ptr<char[]> bytes;
+    std::size_t used = 0, room = 0;
+};
+
+// Appends the code of items, or of their parts, to a buffer, or to what has its `need`, `append` and `put`. What is put makes room for the parts of
+// it that have a longest code; lists make room for their elements.
 template <typename Out> class encoder {
 public:
     explicit encoder(Out &code) noexcept : out(code) {}
@@ -1427,6 +1480,7 @@ public:
     std::optional<flaw> why;
 
     void put(const item &i) {
+        out.need(size_length);
         size(i.statements.size());
         at.location = flaw_location::at_statement;
         for (at.position = 0; at.position < i.statements.size(); at.position++) {
@@ -1434,6 +1488,7 @@ public:
         }
         at.location = last_location(i);
         at.position = 0;
+        out.need(1 + 2 * size_length + 2 * operand_length);
         byte(i.last.index());
         if (const auto *lhs = std::get_if<infer>(&i.last)) {
             put(*lhs);
@@ -1442,15 +1497,17 @@ public:
         } else if (const auto *both = std::get_if<infer_result>(&i.last)) {
             put(both->replaced);
             at.location = flaw_location::at_result;
+            out.need(operand_length);
             put(both->by.value);
         } else if (const auto *pair = std::get_if<cand>(&i.last)) {
             put(pair->replaced);
             put(pair->by);
-            list(pair->attributes);
+            list(pair->attributes, 0);
         }
     }
 
     void put(const statement &s) {
+        out.need(1);
         byte(s.index());
         if (const auto *assigned = std::get_if<assignment>(&s)) {
             put(*assigned);
@@ -1462,22 +1519,26 @@ public:
     }
 
     void put(const assignment &assigned) {
+        // A name, a width, the number of a right side with the fixed part of a phi, and two lists.
+        out.need(assigned.name.size() + width_length + 2 + 4 * size_length);
         size(assigned.name.size());
-        out.append(assigned.name.data(), assigned.name.size());
+        out.append(assigned.name);
         if (!is_utf8(assigned.name)) {
             fail(flaw_reason::name_not_utf8);
         }
         width(assigned.width);
         put(assigned.value);
-        list(assigned.attributes);
+        list(assigned.attributes, 0);
     }
 
     void put(const pc &condition) {
+        out.need(2 * operand_length);
         put(condition.x);
         put(condition.y);
     }
 
     void put(const blockpc &on_block) {
+        out.need(size_length + sizeof on_block.predecessor + 2 * operand_length);
         size(on_block.block.position);
         plain(on_block.predecessor);
         put(on_block.x);
@@ -1485,11 +1546,14 @@ public:
     }
 
     void put(const constant &number) {
-        plain(number.value);
-        width(number.width);
+        out.need(operand_length);
+        put_constant(number);
     }
 
 private:
+    // The lengths of the codes of a size, and of the longest ones of a width and of an operand.
+    static constexpr std::size_t size_length = 8, width_length = 3, operand_length = 1 + sizeof(int128) + width_length;
+
     void fail(flaw_reason reason) {
         if (!why) {
             why = at;
@@ -1497,11 +1561,7 @@ private:
         }
     }
 
-    template <typename T> void plain(T value) {
-        char bytes[sizeof value];
-        std::memcpy(bytes, &value, sizeof value);
-        out.append(bytes, sizeof value);
-    }
+    template <typename T> void plain(T value) { out.put(value); }
 
     // The index of a variant.
     void byte(std::size_t value) {
@@ -1513,14 +1573,17 @@ private:
 
     void size(std::uint64_t value) { plain(value); }
 
-    template <typename T> void list(const std::vector<T> &all) {
+    // The list's length, for which there is room, and its elements.
+    template <typename T> void list(const std::vector<T> &all, std::size_t longest) {
         size(all.size());
+        out.need(all.size() * longest + size_length);
         for (const T &one : all) {
             put(one);
         }
     }
 
     void bits(const std::string &text, std::string_view digits) {
+        out.need(size_length + text.size());
         size(text.size());
         for (const char digit : text) {
             const std::size_t bit = digits.find(digit);
@@ -1546,11 +1609,17 @@ private:
         if (const auto *used = std::get_if<id>(&o)) {
             size(used->position);
         } else if (const auto *number = std::get_if<constant>(&o)) {
-            put(*number);
+            put_constant(*number);
         }
     }
 
+    void put_constant(const constant &number) {
+        plain(number.value);
+        width(number.width);
+    }
+
     void put(const attribute &a) {
+        out.need(1 + 2 * sizeof(int128));
         byte(a.index());
         if (const auto *known = std::get_if<known_bits>(&a)) {
             bits(known->bits, "01x");
@@ -1563,6 +1632,7 @@ private:
     }
 
     void put(const root_attribute &a) {
+        out.need(1);
         byte(a.index());
         if (const auto *demanded = std::get_if<demanded_bits>(&a)) {
             bits(demanded->bits, "01");
@@ -1575,7 +1645,7 @@ private:
             plain(of_block->predecessors);
         } else if (const auto *choice = std::get_if<phi>(&value)) {
             size(choice->block.position);
-            list(choice->values);
+            list(choice->values, operand_length);
         } else if (const auto *computed = std::get_if<instruction>(&value)) {
             if (word(computed->operation).empty()) {
                 fail(flaw_reason::no_operation);
@@ -1583,13 +1653,13 @@ private:
                 fail(flaw_reason::operand_count);
             }
             plain(computed->operation);
-            list(computed->operands);
+            list(computed->operands, operand_length);
         }
     }
 
     void put(const infer &i) {
         size(i.value.position);
-        list(i.attributes);
+        list(i.attributes, 0);
     }
 
     Out &out;
@@ -1621,11 +1691,24 @@ class hash_sink {
 public:
     std::uint64_t hash = 0xcbf29ce484222325U;
 
-    void append(const char *bytes, std::size_t count) noexcept {
-        for (std::size_t i = 0; i < count; i++) {
-            hash = (hash ^ static_cast<unsigned char>(bytes[i])) * 0x100000001b3U;
+    void need(std::size_t) noexcept {}
+
+    void append(std::string_view text) noexcept {
+        for (const char byte : text) {
+            add(static_cast<unsigned char>(byte));
         }
     }
+
+    template <typename T> void put(T value) noexcept {
+        unsigned char bytes[sizeof value];
+        std::memcpy(bytes, &value, sizeof value);
+        for (const unsigned char byte : bytes) {
+            add(byte);
+        }
+    }
+
+private:
+    void add(unsigned char byte) noexcept { hash = (hash ^ byte) * 0x100000001b3U; }
 };
 
 // Equal values have equal codes.
@@ -1635,252 +1718,304 @@ template <typename T> std::size_t hash_of(const T &value) noexcept {
     return sink.hash;
 }
 
-// Reads items from the front of a code. Past a byte that no code has there, or past the end, `good` is false and the values that
-// are read mean nothing. A list is not longer than the bytes that are left allow, so memory is bounded by the length of the code.
+// Reads items from the front of a code. Where a byte is none that a code has there, or bytes are missing, `good` is false and what is read
+// means nothing. A list is not longer than the bytes that are left allow, so memory is bounded by the length of the code.
+//
+// A statement's fixed part, with up to three operands, is read without looking whether its bytes are there, if that many are: `Sure`.
 class decoder {
 public:
-    explicit decoder(std::string_view code) noexcept : rest(code) {}
+    explicit decoder(std::string_view code) noexcept : at(code.data()), end(code.data() + code.size()) {}
 
     bool good = true;
 
     // Where and why a value is none. Nothing if bytes are missing, or a variant has another number.
     std::optional<flaw> why;
 
-    std::size_t left() const noexcept { return rest.size(); }
+    std::size_t left() const noexcept { return static_cast<std::size_t>(end - at); }
 
-    item get_item(kind k) {
-        at.location = flaw_location::at_statement;
-        at.position = 0;
-        item i{list<statement>(least_statement, &decoder::get_statement), {}};
-        at.location = flaw_location::at_infer;
-        at.position = 0;
-        i.last = get_last();
-        at.location = last_location(i);
+    void get_item(kind k, item &i) {
+        place.location = flaw_location::at_statement;
+        place.position = 0;
+        get_list(i.statements, least_statement, [this](statement &s) { get_statement(s); });
+        place.location = flaw_location::at_infer;
+        place.position = 0;
+        get_last(i.last);
+        place.location = last_location(i);
         if (good && kind_of(i) != k) {
             fail(flaw_reason::other_kind, other_kind_text(kind_of(i), k));
         }
-        return i;
     }
 
 private:
-    // The lengths of the shortest codes.
+    // The lengths of the shortest codes, and of the longest one of an operand and of the fixed part of a statement after its name: a width,
+    // a right side of three operands, and the length of the list of attributes.
     static constexpr std::size_t least_operand = 9, least_statement = 19, least_attribute = 1;
-
-    void fail() noexcept {
-        good = false;
-        rest = {};
-    }
+    static constexpr std::size_t operand_length = 20, fixed_length = 3 + 10 + 3 * operand_length + 8;
 
     void fail(flaw_reason reason, std::string text = {}) {
-        why = at;
-        why->reason = reason;
-        why->text = std::move(text);
-        fail();
+        if (good) {
+            why = place;
+            why->reason = reason;
+            why->text = std::move(text);
+        }
+        good = false;
     }
 
-    template <typename T> T plain() noexcept {
-        T value{};
-        if (rest.size() < sizeof value) {
-            fail();
-            return value;
-        }
-        std::memcpy(&value, rest.data(), sizeof value);
-        rest.remove_prefix(sizeof value);
+    // Whether so many bytes are there. Where it is sure, they are, after a failure too.
+    template <bool Sure = false> bool has(std::size_t count) noexcept {
+        good = Sure ? good : good && left() >= count;
+        return Sure || good;
+    }
+
+    // Bytes that are there.
+    template <typename T> T take() noexcept {
+        T value;
+        std::memcpy(&value, at, sizeof value);
+        at += sizeof value;
         return value;
     }
 
+    template <typename T, bool Sure = false> T plain() noexcept { return has<Sure>(sizeof(T)) ? take<T>() : T{}; }
+
     // A byte below a bound.
-    std::uint8_t byte(std::size_t bound) noexcept {
-        const auto value = plain<std::uint8_t>();
-        if (value >= bound) {
-            fail();
-        }
+    template <bool Sure = false> std::uint8_t byte(std::size_t bound) noexcept {
+        const auto value = plain<std::uint8_t, Sure>();
+        good = good && value < bound;
         return value;
     }
 
     // The length of a list whose elements have at least these bytes.
-    std::size_t length(std::size_t least) noexcept {
-        const auto count = plain<std::uint64_t>();
-        if (count > rest.size() / least) {
-            fail();
-        }
+    template <bool Sure = false> std::size_t length(std::size_t least) noexcept {
+        const auto count = plain<std::uint64_t, Sure>();
+        good = good && count <= left() / least;
         return good ? static_cast<std::size_t>(count) : 0;
     }
 
-    template <typename T> std::vector<T> list(std::size_t least, T (decoder::*get)()) {
-        std::vector<T> all;
-        const std::size_t count = length(least);
-        all.reserve(count);
-        while (good && all.size() < count) {
-            all.push_back((this->*get)());
-        }
-        return all;
+    template <typename T, typename Get> void get_list(std::vector<T> &all, std::size_t least, Get get) {
+        get_elements(all, length(least), get);
     }
 
-    std::string text() {
+    template <typename T, typename Get> void get_elements(std::vector<T> &all, std::size_t count, Get get) {
+        if (count > 0) {
+            all.reserve(count);
+        }
+        for (std::size_t i = 0; good && i < count; i++) {
+            get(all.emplace_back());
+        }
+    }
+
+    std::string_view text() noexcept {
         const std::size_t count = length(1);
-        std::string bytes(rest.substr(0, count));
-        rest.remove_prefix(count);
-        return bytes;
+        return {std::exchange(at, at + count), count};
     }
 
-    std::string name() {
-        std::string all = text();
-        if (good && !is_utf8(all)) {
-            fail(flaw_reason::name_not_utf8);
-        }
-        return all;
-    }
-
-    std::string bits(std::string_view digits) {
-        std::string all = text();
-        for (char &bit : all) {
+    void get_bits(std::string &bits, std::string_view digits) {
+        bits = text();
+        for (char &bit : bits) {
             const auto value = static_cast<unsigned char>(bit);
             if (value >= digits.size()) {
                 fail(flaw_reason::no_bit);
-                return all;
+                return;
             }
             bit = digits[value];
         }
-        return all;
     }
 
-    std::optional<std::uint32_t> width() noexcept {
-        return byte(2) == 1 ? std::optional<std::uint32_t>(plain<std::uint16_t>()) : std::nullopt;
-    }
-
-    id get_id() noexcept { return id{plain<std::uint64_t>()}; }
-
-    operand get_operand() {
-        if (byte(2) == 0) {
-            return get_id();
+    template <bool Sure> void get_width(std::optional<std::uint32_t> &width) noexcept {
+        if (byte<Sure>(2) == 1) {
+            width = plain<std::uint16_t, Sure>();
         }
-        const auto value = plain<int128>();
-        return constant{value, width()};
     }
 
-    std::vector<operand> operands() { return list<operand>(least_operand, &decoder::get_operand); }
+    template <bool Sure = false> id get_id() noexcept { return id{plain<std::uint64_t, Sure>()}; }
 
-    attribute get_attribute() {
+    template <bool Sure = false> void get_operand(operand &o) noexcept {
+        if (byte<Sure>(2) == 0) {
+            o = get_id<Sure>();
+            return;
+        }
+        constant number{plain<int128, Sure>()};
+        get_width<Sure>(number.width);
+        o = number;
+    }
+
+    void get_attribute(attribute &a) {
         switch (byte(std::variant_size_v<attribute>)) {
         case 0:
-            return known_bits{bits("01x")};
+            return get_bits(a.emplace<known_bits>().bits, "01x");
         case 1:
-            return power_of_two{};
+            a = power_of_two{};
+            return;
         case 2:
-            return negative{};
+            a = negative{};
+            return;
         case 3:
-            return non_negative{};
+            a = non_negative{};
+            return;
         case 4:
-            return non_zero{};
+            a = non_zero{};
+            return;
         case 5:
-            return has_external_uses{};
+            a = has_external_uses{};
+            return;
         case 6:
-            return sign_bits{plain<std::uint8_t>()};
+            a = sign_bits{plain<std::uint8_t>()};
+            return;
         default:
             const auto low = plain<int128>();
-            return range{low, plain<int128>()};
+            a = range{low, plain<int128>()};
         }
     }
 
-    root_attribute get_root_attribute() {
+    void get_root_attribute(root_attribute &a) {
         if (byte(std::variant_size_v<root_attribute>) == 0) {
-            return demanded_bits{bits("01")};
+            return get_bits(a.emplace<demanded_bits>().bits, "01");
         }
-        return harvested_from_use{};
+        a = harvested_from_use{};
     }
 
-    std::vector<root_attribute> root_attributes() { return list<root_attribute>(least_attribute, &decoder::get_root_attribute); }
-
-    instruction get_instruction() {
-        const auto operation = static_cast<op>(plain<std::uint8_t>());
-        if (good && word(operation).empty()) {
-            fail(flaw_reason::no_operation, no_operation_text(operation));
-        }
-        instruction computed{operation, operands()};
-        if (good && computed.operands.size() != operand_count(operation)) {
-            fail(flaw_reason::operand_count, operand_count_text(computed));
-        }
-        return computed;
+    void get_root_attributes(std::vector<root_attribute> &all) {
+        get_list(all, least_attribute, [this](root_attribute &a) { get_root_attribute(a); });
     }
 
-    right_side get_right_side() {
-        switch (byte(std::variant_size_v<right_side>)) {
+    template <bool Sure> void get_instruction(instruction &computed) {
+        computed.operation = plain<op, Sure>();
+        if (good && word(computed.operation).empty()) {
+            return fail(flaw_reason::no_operation, no_operation_text(computed.operation));
+        }
+        const std::size_t count = length<Sure>(least_operand);
+        if (good && count != operand_count(computed.operation)) {
+            computed.operands.resize(count, id{0});
+            return fail(flaw_reason::operand_count, operand_count_text(computed));
+        }
+        get_elements(computed.operands, count, [this](operand &o) { get_operand<Sure>(o); });
+    }
+
+    template <bool Sure> void get_right_side(right_side &value) {
+        switch (byte<Sure>(std::variant_size_v<right_side>)) {
         case 0:
-            return var{};
+            return;
         case 1:
-            return block{plain<std::uint32_t>()};
+            value = block{plain<std::uint32_t, Sure>()};
+            return;
         case 2: {
-            const id of = get_id();
-            return phi{of, operands()};
+            auto &choice = value.emplace<phi>(phi{get_id<Sure>()});
+            get_list(choice.values, least_operand, [this](operand &o) { get_operand(o); });
+            return;
         }
         case 3:
-            return reservedinst{};
+            value = reservedinst{};
+            return;
         case 4:
-            return reservedconst{};
+            value = reservedconst{};
+            return;
         default:
-            return get_instruction();
+            get_instruction<Sure>(value.emplace<instruction>());
         }
     }
 
-    statement get_statement() {
+    template <bool Sure> void get_rest(assignment &assigned) {
+        get_width<Sure>(assigned.width);
+        get_right_side<Sure>(assigned.value);
+    }
+
+    void get_assignment(assignment &assigned) {
+        assigned.name = text();
+        if (!is_utf8(assigned.name)) {
+            fail(flaw_reason::name_not_utf8);
+        }
+        if (left() >= fixed_length) {
+            get_rest<true>(assigned);
+        } else {
+            get_rest<false>(assigned);
+        }
+        get_list(assigned.attributes, least_attribute, [this](attribute &a) { get_attribute(a); });
+        if (why) {
+            why->name = assigned.name;
+        }
+    }
+
+    void get_statement(statement &s) {
         const auto which = byte(std::variant_size_v<statement>);
         if (which == 0) {
-            assignment assigned{name(), width(), get_right_side(), {}};
-            assigned.attributes = list<attribute>(least_attribute, &decoder::get_attribute);
-            if (why) {
-                why->name = assigned.name;
-            }
-            at.position++;
-            return assigned;
+            get_assignment(*std::get_if<assignment>(&s));
+        } else if (which == 1) {
+            auto &condition = s.emplace<pc>();
+            get_operand(condition.x);
+            get_operand(condition.y);
+        } else {
+            auto &on_block = s.emplace<blockpc>(blockpc{get_id(), plain<std::uint32_t>(), {}, {}});
+            get_operand(on_block.x);
+            get_operand(on_block.y);
         }
-        at.position++;
-        if (which == 1) {
-            return pc{get_operand(), get_operand()};
-        }
-        return blockpc{get_id(), plain<std::uint32_t>(), get_operand(), get_operand()};
+        place.position++;
     }
 
-    infer get_infer() { return infer{get_id(), root_attributes()}; }
+    void get_infer(infer &line) {
+        line.value = get_id();
+        get_root_attributes(line.attributes);
+    }
 
-    last_lines get_last() {
+    void get_last(last_lines &last) {
         switch (byte(std::variant_size_v<last_lines>)) {
         case 0:
-            return get_infer();
+            return get_infer(*std::get_if<infer>(&last));
         case 1:
-            return result{get_operand()};
-        case 2:
-            return infer_result{get_infer(), {get_operand()}};
+            return get_operand(last.emplace<result>().value);
+        case 2: {
+            auto &both = last.emplace<infer_result>();
+            get_infer(both.replaced);
+            return get_operand(both.by.value);
+        }
         default:
-            at.location = flaw_location::at_cand;
-            return cand{get_operand(), get_operand(), root_attributes()};
+            place.location = flaw_location::at_cand;
+            auto &pair = last.emplace<cand>();
+            get_operand(pair.replaced);
+            get_operand(pair.by);
+            get_root_attributes(pair.attributes);
         }
     }
 
-    std::string_view rest;
+    const char *at, *end;
 
     // The place of what is read.
-    flaw at = {};
+    flaw place = {};
 };
 
-// The code of items, which are to be of the kind, if one is given. (Of a kind that is none the library says so.)
-inline bool encode(std::optional<kind> wanted, const item *items, std::size_t count, std::string &code, error &e) {
-    encoder<std::string> to(code);
-    for (std::size_t i = 0; i < count; i++) {
-        e.offset = code.size();
-        to.put(items[i]);
-        if (!to.why && wanted && !word(*wanted).empty() && kind_of(items[i]) != *wanted) {
-            to.why = flaw{last_location(items[i]), flaw_reason::other_kind};
+// What is read or written at once, in bytes: so much that calls are few, and so little that it stays in the processor's cache.
+constexpr std::size_t part_length = 1 << 15;
+
+// The code of items from `next` on, which are to be of the kind, if one is given: up to the last, or to one with which the code has a part's
+// length. (Of a kind that is none the library says so.)
+inline bool encode_part(std::optional<kind> wanted, const item *items, std::size_t count, std::size_t &next, buffer &code, error &e) {
+    encoder<buffer> to(code);
+    for (; next < count && code.size() < part_length; next++) {
+        const std::size_t begin = code.size();
+        to.put(items[next]);
+        if (!to.why && wanted && !word(*wanted).empty() && kind_of(items[next]) != *wanted) {
+            to.why = flaw{last_location(items[next]), flaw_reason::other_kind};
         }
         if (to.why) {
-            describe(*to.why, items[i], wanted);
+            describe(*to.why, items[next], wanted);
             e.what = status::not_well_formed;
-            e.index = i;
+            e.index = next;
+            e.offset = begin;
             e.why = std::move(to.why);
             return false;
         }
     }
-    e.offset = 0;
+    return true;
+}
+
+inline bool encode(const item *items, std::size_t count, std::string &out, error &e) {
+    buffer code;
+    for (std::size_t next = 0; next < count; code.clear()) {
+        if (!encode_part(std::nullopt, items, count, next, code, e)) {
+            e.offset += out.size();
+            return false;
+        }
+        out += code.view();
+    }
     return true;
 }
 
@@ -1892,7 +2027,7 @@ inline bool decode(kind k, std::string_view code, std::vector<item> &items, erro
     decoder from(code);
     while (from.left() > 0) {
         const std::size_t begin = code.size() - from.left();
-        items.push_back(from.get_item(k));
+        from.get_item(k, items.emplace_back());
         if (!from.good) {
             e.what = status::no_code;
             e.index = items.size() - 1;
@@ -1920,20 +2055,22 @@ inline void report(const SouperOutcome &outcome, error &e) noexcept {
     e.column = outcome.column;
 }
 
-// What a call writes to a buffer that is long enough; `room` is the first guess at its length.
-template <typename Call> bool collect(std::string &out, std::size_t room, error &e, Call call) {
+// What a call writes to the buffer; `room` is the first guess at its length, which ordinary input does not exceed. If it is too short, the
+// call does its work again.
+template <typename Call> bool collect(buffer &out, std::size_t room, error &e, Call call) {
     SouperOutcome outcome;
     do {
-        out.resize(room);
-        outcome = call(reinterpret_cast<std::uint8_t *>(out.data()), out.size());
+        out.clear();
+        out.need(room);
+        outcome = call(out.end(), room);
         room = outcome.length;
     } while (outcome.status == SOUPER_SHORT);
-    out.resize(outcome.status == SOUPER_DONE || outcome.status == SOUPER_REFUSED ? outcome.length : 0);
+    out.wrote(outcome.status == SOUPER_DONE || outcome.status == SOUPER_REFUSED ? outcome.length : 0);
     if (outcome.status == SOUPER_DONE) {
         return true;
     }
     report(outcome, e);
-    e.shown.swap(out);
+    e.shown = out.view();
     return false;
 }
 
@@ -1967,34 +2104,78 @@ inline void locate(kind k, std::string_view text, error &e) {
     }
 }
 
-// What a call writes for a text, which is located if it is refused.
-template <typename Call> bool collect_of(kind k, std::string_view text, std::string &out, std::size_t room, error &e, Call call) {
-    if (collect(out, room, e, call)) {
-        return true;
+// The first items of a text: up to the last cut between two in the first bytes, `length` of them or, if they have none, more.
+inline std::string_view first_part(kind k, std::string_view text, std::size_t length) noexcept {
+    for (; length < text.size(); length *= 4) {
+        const SouperOutcome cut = souper_last_cut(static_cast<std::uint32_t>(k), bytes(text), length);
+        if (cut.status != SOUPER_DONE || cut.length > 0) {
+            return cut.status == SOUPER_DONE ? text.substr(0, cut.length) : text;
+        }
     }
-    locate(k, text, e);
-    return false;
+    return text;
+}
+
+// Gives `take` what a call writes for each part of a text, which is cut between items; the first guess is so many times its length. A refused
+// part is read again with the whole text, in which the error has its place.
+template <typename Output, typename Call, typename Take>
+bool in_parts(kind k, std::string_view text, std::size_t times, Output &out, error &e, Call call, Take take) {
+    buffer written;
+    std::string_view rest = text;
+    for (std::size_t length = part_length;;) {
+        const std::string_view part = first_part(k, rest, length);
+        if (collect(written, times * part.size() + 512, e, [&](std::uint8_t *to, std::size_t room) { return call(part, to, room); })) {
+            if (!take(written.view())) {
+                return false;
+            }
+            rest.remove_prefix(part.size());
+            if (rest.empty()) {
+                return true;
+            }
+        } else if (part.size() == text.size() || (e.what != status::refused && e.what != status::not_utf8)) {
+            locate(k, text, e);
+            return false;
+        } else {
+            out = Output{};
+            e = error();
+            rest = text;
+            length = text.size();
+        }
+    }
+}
+
+// The same, to a string.
+template <typename Call> bool text_in_parts(kind k, std::string_view text, std::size_t times, std::string &out, error &e, Call call) {
+    return in_parts(k, text, times, out, e, call, [&out](std::string_view written) {
+        out += written;
+        return true;
+    });
 }
 
 inline bool format(kind k, std::string_view text, std::string &out, error &e) {
-    return collect_of(k, text, out, text.size() + text.size() / 4 + 256, e, [k, text](std::uint8_t *to, std::size_t room) {
-        return souper_format(static_cast<std::uint32_t>(k), bytes(text), text.size(), to, room);
+    return text_in_parts(k, text, 2, out, e, [k](std::string_view part, std::uint8_t *to, std::size_t room) {
+        return souper_format(static_cast<std::uint32_t>(k), bytes(part), part.size(), to, room);
     });
+}
+
+// The record of `result 1` has nine times its length.
+constexpr std::size_t times_of_record = 10;
+
+inline auto key_of(kind k, flags f) noexcept {
+    return [k, f](std::string_view part, std::uint8_t *to, std::size_t room) {
+        return souper_key(static_cast<std::uint32_t>(k), static_cast<std::uint32_t>(f), bytes(part), part.size(), to, room);
+    };
 }
 
 inline bool key(kind k, std::string_view text, flags f, std::string &out, error &e) {
-    return collect_of(k, text, out, text.size() + text.size() / 4 + 256, e, [k, text, f](std::uint8_t *to, std::size_t room) {
-        return souper_key(static_cast<std::uint32_t>(k), static_cast<std::uint32_t>(f), bytes(text), text.size(), to, room);
-    });
+    return text_in_parts(k, text, times_of_record, out, e, key_of(k, f));
 }
 
+// The code of `%1=fshl 1,2,3` has six times its length.
 inline bool read(kind k, std::string_view text, std::vector<item> &items, error &e) {
-    std::string code;
-    return collect_of(k, text, code, 3 * text.size() + 256, e,
-                      [k, text](std::uint8_t *to, std::size_t room) {
-                          return souper_read(static_cast<std::uint32_t>(k), bytes(text), text.size(), to, room);
-                      })
-        && decode(k, code, items, e);
+    const auto call = [k](std::string_view part, std::uint8_t *to, std::size_t room) {
+        return souper_read(static_cast<std::uint32_t>(k), bytes(part), part.size(), to, room);
+    };
+    return in_parts(k, text, 7, items, e, call, [&](std::string_view code) { return decode(k, code, items, e); });
 }
 
 // The first flaw of an item, with whose code the bytes begin.
@@ -2012,21 +2193,38 @@ inline std::optional<flaw> flaw_of(kind k, std::string_view code, const item &on
 }
 
 inline bool write(kind k, const item *items, std::size_t count, std::string &out, error &e) {
-    std::string code;
-    if (!encode(k, items, count, code, e)) {
-        return false;
-    }
-    if (collect(out, code.size() + 256, e, [k, &code](std::uint8_t *to, std::size_t room) {
-            return souper_write(static_cast<std::uint32_t>(k), bytes(code), code.size(), to, room);
-        })) {
-        return true;
-    }
-    if (e.what == status::not_well_formed && e.index < count && e.offset <= code.size()) {
-        e.why = flaw_of(k, std::string_view(code).substr(e.offset), items[e.index]);
-    }
-    // A library of another version may have other codes.
-    e.what = e.what == status::no_code ? status::not_well_formed : e.what;
-    return false;
+    buffer code, text;
+    std::size_t next = 0, before = 0; // the items, and the bytes of code, that are written
+    const auto call = [k, &code](std::uint8_t *to, std::size_t room) {
+        return souper_write(static_cast<std::uint32_t>(k), bytes(code.view()), code.size(), to, room);
+    };
+    do {
+        const std::size_t first = next;
+        error of_item;
+        code.clear();
+        const bool is_coded = encode_part(k, items, count, next, code, of_item);
+        // The items before one that has no code come first.
+        const std::size_t length = is_coded ? code.size() : of_item.offset;
+        code.keep(length);
+        if (!collect(text, 2 * length + 512, e, call)) {
+            if (e.what == status::not_well_formed && e.index < next - first && e.offset <= length) {
+                e.why = flaw_of(k, code.view().substr(e.offset), items[first + e.index]);
+            }
+            // A library of another version may have other codes.
+            e.what = e.what == status::no_code ? status::not_well_formed : e.what;
+            e.index += e.what == status::not_well_formed ? first : 0;
+            e.offset += e.what == status::not_well_formed ? before : 0;
+            return false;
+        }
+        before += length;
+        if (!is_coded) {
+            e = std::move(of_item);
+            e.offset = before;
+            return false;
+        }
+        out += text.view();
+    } while (next < count);
+    return true;
 }
 
 inline bool canonical(kind k, const item *items, std::size_t count, std::vector<item> &out, error &e) {
@@ -2037,16 +2235,15 @@ inline bool canonical(kind k, const item *items, std::size_t count, std::vector<
 // Each record is `; `, the key, a newline, the text and a byte 0.
 inline bool records(kind k, std::string_view text, bool rename, std::vector<record> &out, error &e) {
     constexpr std::size_t digits = 64, before = 2, head = before + digits + 1;
-    std::string all;
-    if (!key(k, text, flags::key | flags::null | (rename ? flags::rename : flags::none), all, e)) {
-        return false;
-    }
-    for (std::size_t at = 0; at < all.size();) {
-        const std::size_t end = all.find('\0', at);
-        out.push_back(record{all.substr(at + before, digits), all.substr(at + head, end - at - head)});
-        at = end + 1;
-    }
-    return true;
+    const flags f = flags::key | flags::null | (rename ? flags::rename : flags::none);
+    return in_parts(k, text, times_of_record, out, e, key_of(k, f), [&out](std::string_view all) {
+        for (std::size_t at = 0; at < all.size();) {
+            const std::size_t end = all.find('\0', at);
+            out.push_back(record{std::string(all.substr(at + before, digits)), std::string(all.substr(at + head, end - at - head))});
+            at = end + 1;
+        }
+        return true;
+    });
 }
 
 // The texts of items, each of which a newline ends and an empty line follows.
@@ -2062,17 +2259,18 @@ inline std::vector<std::string> texts(std::string_view all) {
 
 // What is written for a left-hand side ends with a byte 0.
 inline bool find(std::string_view store, std::string_view queries, std::vector<std::vector<std::string>> &answers, error &e) {
-    std::string all;
-    if (!collect(all, 2 * queries.size() + 256, e, [store, queries](std::uint8_t *to, std::size_t room) {
+    buffer out;
+    // A second call reads the store again, and room that is not written costs nothing.
+    if (!collect(out, 4 * queries.size() + 2 * store.size() + 512, e, [store, queries](std::uint8_t *to, std::size_t room) {
             return souper_find(bytes(store), store.size(), bytes(queries), queries.size(), to, room);
         })) {
         locate(e.input == 0 ? kind::rep : kind::lhs, e.input == 0 ? store : queries, e);
         return false;
     }
-    for (std::size_t at = 0; at < all.size();) {
-        const std::size_t end = all.find('\0', at);
-        answers.push_back(texts(std::string_view(all).substr(at, end - at)));
-        at = end + 1;
+    for (std::string_view all = out.view(); !all.empty();) {
+        const std::size_t end = all.find('\0');
+        answers.push_back(texts(all.substr(0, end)));
+        all.remove_prefix(end + 1);
     }
     return true;
 }
@@ -2214,7 +2412,7 @@ inline namespace SOUPER_FORM {
 /// See `encode`.
 [[nodiscard]] inline bool try_encode(const std::vector<item> &items, std::string &code, error &e) noexcept {
     return detail::guarded(code, e,
-                           [&](auto &o, error &why) { return detail::encode(std::nullopt, items.data(), items.size(), o, why); });
+                           [&](auto &o, error &why) { return detail::encode(items.data(), items.size(), o, why); });
 }
 
 /// See `decode`.
