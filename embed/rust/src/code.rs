@@ -205,9 +205,7 @@ pub trait Item: Decode + Encode + LastLines {
     ///
     /// [`Error::NotWellFormed`], with the flaw, or [`Error::OutOfMemory`].
     fn to_text(&self) -> Result<String, Error> {
-        let mut code = Vec::new();
-        self.encode(&mut code);
-        let mut text = write(Self::KIND, &code)?;
+        let mut text = self.with_code(|code| write(Self::KIND, code))?;
         // The newline that the library writes after each item.
         text.pop();
         Ok(text)
@@ -232,9 +230,7 @@ pub trait Item: Decode + Encode + LastLines {
     ///
     /// [`Error::OutOfMemory`].
     fn flaw(&self) -> Result<Option<Flaw>, Error> {
-        let mut code = Vec::new();
-        self.encode(&mut code);
-        Ok(Flaw::of_code(Self::KIND, &code)?)
+        Ok(self.with_code(|code| Flaw::of_code(Self::KIND, code))?)
     }
 }
 
@@ -282,8 +278,21 @@ impl Item for Replacement {
 ///
 /// If the text spells no list of items of the kind, or if memory runs out.
 pub fn read(kind: Kind, text: &str) -> Result<Vec<u8>, canonical::Error> {
-    // Most codes have one to three times the bytes of their text. The unwritten rest of a large buffer takes no memory.
-    canonical::written(Call::Read, kind, text, 4 * text.len() + 256)
+    canonical::written(Call::Read, kind, text, CODE)
+}
+
+// The code of `%1=fshl 1,2,3` has six times its length.
+const CODE: usize = 7;
+
+// The items that the text spells. The code is decoded part by part.
+pub(crate) fn read_items<T, E>(text: &str) -> Result<Vec<T>, E>
+where
+    T: Item,
+    E: From<canonical::Error> + From<NoCode>,
+{
+    canonical::in_parts(Call::Read, T::KIND, text, CODE, |items, code| {
+        Ok(decode_to(code, items)?)
+    })
 }
 
 /// The canonical text of each item of the code, a newline after each.
@@ -294,12 +303,13 @@ pub fn read(kind: Kind, text: &str) -> Result<Vec<u8>, canonical::Error> {
 pub fn write(kind: Kind, code: &[u8]) -> Result<String, Error> {
     let mut text = Vec::new();
     write_to(kind, code, &mut text)?;
+    text.shrink_to_fit();
     Ok(String::from_utf8(text).expect("the library writes UTF-8"))
 }
 
 // As `write`, to a buffer that may have anything in it.
 pub(crate) fn write_to(kind: Kind, code: &[u8], text: &mut Vec<u8>) -> Result<(), Error> {
-    let outcome = raw::call(Call::Write, kind, code, code.len() + 64, text);
+    let outcome = raw::call(Call::Write, kind, code, 2 * code.len() + 64, text);
     match outcome.status {
         raw::DONE => Ok(()),
         raw::NO_CODE => Err(NoCode::new(outcome.offset).into()),
@@ -323,13 +333,18 @@ pub(crate) fn write_to(kind: Kind, code: &[u8], text: &mut Vec<u8>) -> Result<()
 ///
 /// If the bytes are no such code.
 pub fn decode<T: Item>(code: &[u8]) -> Result<Vec<T>, NoCode> {
-    let mut decoder = Decoder::new(code);
     let mut items = Vec::new();
+    decode_to(code, &mut items)?;
+    Ok(items)
+}
+
+fn decode_to<T: Item>(code: &[u8], items: &mut Vec<T>) -> Result<(), NoCode> {
+    let mut decoder = Decoder::new(code);
     while !decoder.is_at_end() {
         let offset = decoder.offset();
         items.push(T::decode(&mut decoder).ok_or(NoCode::new(offset))?);
     }
-    Ok(items)
+    Ok(())
 }
 
 /// The code of the items.
