@@ -1470,8 +1470,8 @@ private:
     std::size_t used = 0, room = 0;
 };
 
-// Appends the code of items, or of their parts, to a buffer, or to what has its `need`, `append` and `put`. What is put makes room for the parts of
-// it that have a longest code; lists make room for their elements.
+// Appends the code of items, or of their parts, to a buffer, or to what has its `need`, `append` and `put`. Room is made for the fixed part
+// of what is put, and of a list for all elements.
 template <typename Out> class encoder {
 public:
     explicit encoder(Out &code) noexcept : out(code) {}
@@ -1985,8 +1985,8 @@ private:
 // What is read or written at once, in bytes: so much that calls are few, and so little that it stays in the processor's cache.
 constexpr std::size_t part_length = 1 << 15;
 
-// The code of items from `next` on, which are to be of the kind, if one is given: up to the last, or to one with which the code has a part's
-// length. (Of a kind that is none the library says so.)
+// Appends the code of items from `next` on, which are to be of the kind, if one is given: up to the last, or to the one with which the code
+// is as long as a part. (Of a kind that is none the library says so.)
 inline bool encode_part(std::optional<kind> wanted, const item *items, std::size_t count, std::size_t &next, buffer &code, error &e) {
     encoder<buffer> to(code);
     for (; next < count && code.size() < part_length; next++) {
@@ -2115,8 +2115,8 @@ inline std::string_view first_part(kind k, std::string_view text, std::size_t le
     return text;
 }
 
-// Gives `take` what a call writes for each part of a text, which is cut between items; the first guess is so many times its length. A refused
-// part is read again with the whole text, in which the error has its place.
+// Gives `take` what a call writes for each part of a text, which is cut between items; the first guess is so many times its length. If a
+// part is refused, the whole text is read, in which the error has its place.
 template <typename Output, typename Call, typename Take>
 bool in_parts(kind k, std::string_view text, std::size_t times, Output &out, error &e, Call call, Take take) {
     buffer written;

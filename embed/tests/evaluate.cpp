@@ -1,8 +1,8 @@
 // Whether a pass keeps the values of items: an interpreter of items, on random inputs.
 //
 //     evaluate make KIND               writes items with products, by constants and others, of widths of 2 to 64 bits
-//     evaluate same KIND BEFORE AFTER  compares the items of two files, value by value, and counts the products by powers of two, 3, 5 and 9
-//                                      that the second one still has
+//     evaluate same KIND BEFORE AFTER  compares the items of two files, value by value; the second one is to have no product by a power of
+//                                      two, 3, 5 or 9
 #include "souper.hpp"
 
 extern "C" {

@@ -147,7 +147,7 @@ many many_of(kind k, const Record *records, std::size_t count) {
 // What souper_format writes for a text that is refused.
 std::string refusal_of(kind k, const std::string &text) {
     std::string out(2 * text.size(), '\0');
-    const SouperOutcome outcome = souper_format(static_cast<std::uint32_t>(k), reinterpret_cast<const std::uint8_t *>(text.data()), text.size(),
+    const SouperOutcome outcome = souper_format(static_cast<std::uint32_t>(k), oracle::bytes(text), text.size(),
                                                 reinterpret_cast<std::uint8_t *>(out.data()), out.size());
     out.resize(outcome.status == SOUPER_REFUSED ? outcome.length : 0);
     return out;
@@ -171,7 +171,8 @@ void in_parts(kind k, const Record *records, std::size_t count) {
     }
     souper::error e;
     std::string out;
-    expect(!souper::try_format(k, all.text + "infer \xff", out, e) && e.what == souper::status::not_utf8, "a long text that is not UTF-8", nullptr);
+    expect(!souper::try_format(k, all.text + "infer \xff", out, e) && e.what == souper::status::not_utf8, "a long text that is not UTF-8",
+           nullptr);
     // The first item that has no text is told, be it one that has no code.
     auto items = all.items;
     const item ill_formed{{}, souper::infer{id{0}}}, uncoded{{}, souper::infer{id{0}, {souper::demanded_bits{"x"}}}};

@@ -99,7 +99,8 @@ void cycles() {
         souper::error e;
         const std::string shown = "statement " + std::to_string(position) + ": the replacements of a value come back to it";
         const bool done = souper::try_replace_uses(i, pairs, e);
-        expect(!done && i == before && e.what == souper::status::cycle && e.index == position && e.message == shown, shown.c_str(), nullptr);
+        expect(!done && i == before && e.what == souper::status::cycle && e.index == position && e.message == shown, shown.c_str(),
+               nullptr);
         try {
             souper::replace_uses(i, pairs);
             expect(false, "the exception of a cycle", nullptr);
@@ -184,8 +185,8 @@ void sorted_cycle() {
     item i{{souper::assignment{"%a", {}, of_1}, souper::assignment{"%b", {}, of_0}, souper::assignment{"%c", {}, of_none}},
            souper::infer{id{0}}};
     expect(souper::sort(i) == std::vector<id>{id{1}, id{0}, id{2}}, "a cycle", nullptr);
-    expect(i.last == souper::last_lines(souper::infer{id{1}}) && i.statements[2] == souper::statement(souper::assignment{"%c", {}, of_none}),
-           "uses of no statement", nullptr);
+    const souper::statement third = souper::assignment{"%c", {}, of_none};
+    expect(i.last == souper::last_lines(souper::infer{id{1}}) && i.statements[2] == third, "uses of no statement", nullptr);
     try {
         souper::write(i);
         expect(false, "a cycle has no text", nullptr);
@@ -241,8 +242,8 @@ void large() {
     expect(souper::sort(i)[0] == id{count - 1} && souper::users(i).of(id{7})[0] == id{8}, "a long chain", nullptr);
     expect(std::get<souper::assignment>(i.statements.back()).name == "%" + std::to_string(count - 1), "its names", nullptr);
     souper::replace_uses(replaced, by);
-    expect(souper::users(replaced).of(id{count - 1}).size() == count - 1 && replaced.last == souper::last_lines(souper::infer{id{count - 1}}),
-           "a long chain of replacements", nullptr);
+    const souper::last_lines last = souper::infer{id{count - 1}};
+    expect(souper::users(replaced).of(id{count - 1}).size() == count - 1 && replaced.last == last, "a long chain of replacements", nullptr);
 }
 
 } // namespace

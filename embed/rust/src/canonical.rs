@@ -372,8 +372,8 @@ fn first_part(kind: Kind, text: &str, mut len: usize) -> &str {
     text
 }
 
-// Gives `take` what the call writes for each part of the text, which is cut between items, with what came of the parts before. The first guess
-// is so many times the length of a part.
+// Gives `take` what the call writes for each part of the text, which is cut between items, with what came of the parts before. The first
+// guess is so many times the length of a part.
 pub(crate) fn in_parts<T: Default, E: From<Error>>(
     call: Call<'_>,
     kind: Kind,
