@@ -2115,6 +2115,9 @@ inline std::string_view first_part(kind k, std::string_view text, std::size_t le
     return text;
 }
 
+// What an error shows is mostly shorter.
+constexpr std::size_t shown_length = 4096;
+
 // Gives `take` what a call writes for each part of a text, which is cut between items; the first guess is so many times its length. If a
 // part is refused, the whole text is read, in which the error has its place.
 template <typename Output, typename Call, typename Take>
@@ -2123,7 +2126,8 @@ bool in_parts(kind k, std::string_view text, std::size_t times, Output &out, err
     std::string_view rest = text;
     for (std::size_t length = part_length;;) {
         const std::string_view part = first_part(k, rest, length);
-        if (collect(written, times * part.size() + 512, e, [&](std::uint8_t *to, std::size_t room) { return call(part, to, room); })) {
+        const auto of_part = [&](std::uint8_t *to, std::size_t room) { return call(part, to, room); };
+        if (collect(written, times * part.size() + shown_length, e, of_part)) {
             if (!take(written.view())) {
                 return false;
             }
@@ -2139,6 +2143,7 @@ bool in_parts(kind k, std::string_view text, std::size_t times, Output &out, err
             e = error();
             rest = text;
             length = text.size();
+            times = 0;
         }
     }
 }
@@ -2206,7 +2211,7 @@ inline bool write(kind k, const item *items, std::size_t count, std::string &out
         // The items before one that has no code come first.
         const std::size_t length = is_coded ? code.size() : of_item.offset;
         code.keep(length);
-        if (!collect(text, 2 * length + 512, e, call)) {
+        if (!collect(text, 2 * length + shown_length, e, call)) {
             if (e.what == status::not_well_formed && e.index < next - first && e.offset <= length) {
                 e.why = flaw_of(k, code.view().substr(e.offset), items[first + e.index]);
             }
@@ -2261,7 +2266,7 @@ inline std::vector<std::string> texts(std::string_view all) {
 inline bool find(std::string_view store, std::string_view queries, std::vector<std::vector<std::string>> &answers, error &e) {
     buffer out;
     // A second call reads the store again, and room that is not written costs nothing.
-    if (!collect(out, 4 * queries.size() + 2 * store.size() + 512, e, [store, queries](std::uint8_t *to, std::size_t room) {
+    if (!collect(out, 4 * queries.size() + 2 * store.size() + shown_length, e, [store, queries](std::uint8_t *to, std::size_t room) {
             return souper_find(bytes(store), store.size(), bytes(queries), queries.size(), to, room);
         })) {
         locate(e.input == 0 ? kind::rep : kind::lhs, e.input == 0 ? store : queries, e);

@@ -335,7 +335,7 @@ pub fn key(kind: Kind, text: &str, record: Record) -> Result<String, Error> {
 pub fn find(store: &str, queries: &str) -> Result<Vec<Vec<String>>, Error> {
     let mut out = Vec::new();
     // A second call reads the store again, and room that is not written costs nothing.
-    let room = 4 * queries.len() + 2 * store.len() + 512;
+    let room = 4 * queries.len() + 2 * store.len() + SHOWN;
     let call = Call::Find(store);
     let outcome = raw::call(call, Kind::Lhs, queries.as_bytes(), room, &mut out);
     match (outcome.status, outcome.input) {
@@ -360,6 +360,9 @@ fn groups(all: &str) -> Vec<Vec<String>> {
 // The bytes of a text that are read at once: so many that calls are few, and so few that what is written stays in the processor's cache.
 const PART: usize = 1 << 15;
 
+// What an error shows is mostly shorter.
+const SHOWN: usize = 4096;
+
 // The first items of a text: up to the last cut between two in the first bytes, `len` of them or, if they have none, more.
 fn first_part(kind: Kind, text: &str, mut len: usize) -> &str {
     while len < text.len() {
@@ -382,16 +385,16 @@ pub(crate) fn in_parts<T: Default, E: From<Error>>(
     take: impl Fn(&mut T, &[u8]) -> Result<(), E>,
 ) -> Result<T, E> {
     raw::with_buffer(|written| {
-        let (mut all, mut rest, mut len) = (T::default(), text, PART);
+        let (mut all, mut rest, mut len, mut times) = (T::default(), text, PART, times);
         loop {
             let part = first_part(kind, rest, len);
-            let room = times * part.len() + 512;
+            let room = times * part.len() + SHOWN;
             let outcome = raw::call(call, kind, part.as_bytes(), room, written);
             match outcome.status {
                 raw::DONE => take(&mut all, written)?,
                 // The place of an error is one in the whole text.
                 raw::REFUSED if part.len() < text.len() => {
-                    (all, rest, len) = (T::default(), text, text.len());
+                    (all, rest, len, times) = (T::default(), text, text.len(), 0);
                     continue;
                 }
                 raw::REFUSED => {
