@@ -824,16 +824,17 @@ inline id insert_before(item &i, id place, statement inserted) {
 /// the two places move by one position. It takes time linear in the item.
 inline id move_before(item &i, id which, id place) {
     const std::size_t count = i.statements.size(), from = which.position, to = std::min(place.position, count);
-    if (from >= count || to == from || to == from + 1) {
+    if (from >= count) {
         return which;
     }
-    const std::size_t low = std::min(from, to), high = std::max(from + 1, to), at = to < from ? to : to - 1;
-    const auto first = i.statements.begin();
-    const auto position = [first](std::size_t offset) { return first + static_cast<std::ptrdiff_t>(offset); };
-    std::rotate(position(low), position(to < from ? from : from + 1), position(high));
+    const std::size_t at = to > from ? to - 1 : to, low = std::min(from, at), high = std::max(from, at);
+    const auto statement_at = [&i](std::size_t position) { return i.statements.begin() + static_cast<std::ptrdiff_t>(position); };
+    std::rotate(statement_at(low), statement_at(at < from ? from : from + 1), statement_at(high + 1));
     detail::renumber(i, [=](id used) {
-        const bool moves = low <= used.position && used.position < high;
-        return used.position == from ? id{at} : !moves ? used : id{to < from ? used.position + 1 : used.position - 1};
+        if (used == which) {
+            return id{at};
+        }
+        return used.position < low || used.position > high ? used : id{at < from ? used.position + 1 : used.position - 1};
     });
     detail::make_names(i.statements);
     return id{at};

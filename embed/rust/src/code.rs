@@ -170,7 +170,8 @@ pub trait Item: Decode + Encode + LastLines {
 
     /// Moves a statement before the one at `place`, or to the end if that is the arena's `next_id`. Returns its new id.
     ///
-    /// The statements between the two places move by one position. It takes time linear in the item.
+    /// The statements between the two places move by one position. An assignment whose name is empty gets a name as from a builder. It takes
+    /// time linear in the item.
     ///
     /// # Panics
     ///

@@ -50,23 +50,24 @@ pub(crate) fn move_before(
     let statements = item.statements_mut();
     let (from, to) = (place_of(statements, which), place_of(statements, place));
     assert!(from < statements.len(), "an id of a statement");
-    if to < from {
-        statements.values_mut()[to..=from].rotate_right(1);
-        renumber(item, |index| match index {
-            _ if index == from => to,
-            _ if (to..from).contains(&index) => index + 1,
-            _ => index,
-        });
-        return item.statements().id(to);
+    // Its new index, and the indexes between the two places.
+    let at = if to > from { to - 1 } else { to };
+    let between = from.min(at)..=from.max(at);
+    let moved = &mut statements.values_mut()[between.clone()];
+    if at < from {
+        moved.rotate_right(1);
+    } else {
+        moved.rotate_left(1);
     }
-    let last = to.max(from + 1) - 1;
-    statements.values_mut()[from..=last].rotate_left(1);
     renumber(item, |index| match index {
-        _ if index == from => last,
-        _ if (from..=last).contains(&index) => index - 1,
-        _ => index,
+        _ if index == from => at,
+        _ if !between.contains(&index) => index,
+        _ if at < from => index + 1,
+        _ => index - 1,
     });
-    item.statements().id(last)
+    let statements = item.statements_mut();
+    make_names(statements);
+    statements.id(at)
 }
 
 // The index of an id, or the length if it is past the end.
