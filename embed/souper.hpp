@@ -1458,7 +1458,8 @@ public:
 
 private:
     void grow(std::size_t count) {
-        const std::size_t wanted = used + std::max(count, used);
+        constexpr std::size_t least = 1024;
+        const std::size_t wanted = used + std::max({count, used, least});
         std::unique_ptr<char[]> more(new char[wanted]);
         if (used > 0) {
             std::memcpy(more.get(), bytes.get(), used);
