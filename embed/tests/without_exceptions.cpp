@@ -156,7 +156,7 @@ void passes() {
     expect(souper::try_replace_uses(i, pairs{{z, y}, {y, x}}, e) && is_none(e) && i.last == souper::last_lines(souper::infer{x}),
            "values that are replaced at once", nullptr);
     expect(souper::insert_before(i, x, souper::assignment{"%first"}).position == 0 && souper::sort(i).size() == 4
-               && souper::move_before(i, souper::id{0}, souper::id{4}).position == 3 && souper::users(i).of(x).size() == 1,
+               && souper::move_before(i, souper::id{0}, souper::id{4}).position == 3 && souper::users(i).of(x).size() == 2,
            "statements that are inserted and moved", nullptr);
 }
 
