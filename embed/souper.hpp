@@ -485,64 +485,359 @@ template <typename Visit> void for_each_operand(const statement &s, Visit visit)
 /// The same with operands that `visit` may change.
 template <typename Visit> void for_each_operand(statement &s, Visit visit) { detail::visit_operands(s, visit); }
 
-/// Calls `visit` with the id of each use of a statement, in order: the block of a phi or `blockpc`, and then the operands from
-/// left to right. Constants are no uses.
-template <typename Visit> void for_each_use(const statement &s, Visit visit) {
-    if (const auto *on_block = std::get_if<blockpc>(&s)) {
+namespace detail {
+
+// Calls `visit` with the id that an operand is, if it is one.
+template <typename Operand, typename Visit> void visit_id(Operand &o, Visit &visit) {
+    if (auto *used = std::get_if<id>(&o)) {
+        visit(*used);
+    }
+}
+
+// Calls `visit` with each id of a statement, or of last lines. These may be const.
+template <typename Statement, typename Visit> void visit_ids(Statement &s, Visit &visit) {
+    if (auto *on_block = std::get_if<blockpc>(&s)) {
         visit(on_block->block);
-    } else if (const auto *assigned = std::get_if<assignment>(&s)) {
-        if (const auto *choice = std::get_if<phi>(&assigned->value)) {
+    } else if (auto *assigned = std::get_if<assignment>(&s)) {
+        if (auto *choice = std::get_if<phi>(&assigned->value)) {
             visit(choice->block);
         }
     }
-    for_each_operand(s, [&visit](const operand &o) {
-        if (const id *used = std::get_if<id>(&o)) {
-            visit(*used);
-        }
-    });
+    const auto visit_used = [&visit](auto &o) { visit_id(o, visit); };
+    visit_operands(s, visit_used);
 }
 
-namespace detail {
-
-inline void replace_use(operand &o, id of, const operand &by) noexcept {
-    if (o == operand(of)) {
-        o = by;
-    }
-}
-
-// An infer line has a value, and keeps it where a constant would take its place.
-inline void replace_use(infer &line, id of, const operand &by) noexcept {
-    const id *value = std::get_if<id>(&by);
-    if (line.value == of && value != nullptr) {
-        line.value = *value;
+template <typename Lines, typename Visit> void visit_last_ids(Lines &lines, Visit &visit) {
+    if (auto *lhs = std::get_if<infer>(&lines)) {
+        visit(lhs->value);
+    } else if (auto *rhs = std::get_if<result>(&lines)) {
+        visit_id(rhs->value, visit);
+    } else if (auto *both = std::get_if<infer_result>(&lines)) {
+        visit(both->replaced.value);
+        visit_id(both->by.value, visit);
+    } else if (auto *pair = std::get_if<cand>(&lines)) {
+        visit_id(pair->replaced, visit);
+        visit_id(pair->by, visit);
     }
 }
 
 } // namespace detail
 
+/// Calls `visit` with the id of each use of a statement, in order: the block of a phi or `blockpc`, and then the operands from
+/// left to right. Constants are no uses.
+template <typename Visit> void for_each_use(const statement &s, Visit visit) { detail::visit_ids(s, visit); }
+
+/// Calls `visit` with the id of each use of last lines, in order.
+template <typename Visit> void for_each_use(const last_lines &lines, Visit visit) { detail::visit_last_ids(lines, visit); }
+
+/// What uses each statement of an item, made once, in time linear in the item. It does not follow changes of the item.
+class users {
+public:
+    /// Some statements, by their ids.
+    class list {
+    public:
+        list(const id *from, const id *to) noexcept : first(from), past(to) {}
+
+        const id *begin() const noexcept { return first; }
+        const id *end() const noexcept { return past; }
+        std::size_t size() const noexcept { return static_cast<std::size_t>(past - first); }
+        bool empty() const noexcept { return first == past; }
+        id operator[](std::size_t index) const noexcept { return first[index]; }
+
+    private:
+        const id *first, *past;
+    };
+
+    explicit users(const item &i) : ends(i.statements.size()), in_last(i.statements.size()) {
+        visit(i, [this](std::size_t used, id) { ends[used]++; });
+        std::size_t total = 0;
+        for (std::size_t &end : ends) {
+            total += std::exchange(end, total);
+        }
+        all.resize(total);
+        visit(i, [this](std::size_t used, id user) { all[ends[used]++] = user; });
+        for_each_use(i.last, [this](id used) {
+            if (used.position < in_last.size()) {
+                in_last[used.position] = true;
+            }
+        });
+    }
+
+    /// The statements that use the one at a position, each once, in their order.
+    list of(id used) const noexcept {
+        if (used.position >= ends.size()) {
+            return {nullptr, nullptr};
+        }
+        return {all.data() + (used.position > 0 ? ends[used.position - 1] : 0), all.data() + ends[used.position]};
+    }
+
+    /// Whether a last line uses the statement at a position.
+    bool in_last_lines(id used) const noexcept { return used.position < in_last.size() && in_last[used.position]; }
+
+private:
+    // Calls `take` with each statement that is used and each of its users.
+    template <typename Take> static void visit(const item &i, Take take) {
+        std::vector<std::size_t> user_of(i.statements.size(), SIZE_MAX); // the last that was seen
+        for (std::size_t user = 0; user < i.statements.size(); user++) {
+            for_each_use(i.statements[user], [&](id used) {
+                if (used.position < user_of.size() && std::exchange(user_of[used.position], user) != user) {
+                    take(used.position, id{user});
+                }
+            });
+        }
+    }
+
+    std::vector<std::size_t> ends; // where the users of each statement end in `all`
+    std::vector<id> all;
+    std::vector<bool> in_last;
+};
+
+namespace detail {
+
+// `other` returns what comes in the place of a value, or null.
+template <typename Other> void replace_use(operand &o, const Other &other) {
+    const id *used = std::get_if<id>(&o);
+    if (const operand *by = used != nullptr ? other(*used) : nullptr) {
+        o = operand(*by);
+    }
+}
+
+// An infer line has a value, and keeps it where a constant would take its place.
+template <typename Other> void replace_use(infer &line, const Other &other) {
+    const operand *by = other(line.value);
+    if (const id *value = by != nullptr ? std::get_if<id>(by) : nullptr) {
+        line.value = *value;
+    }
+}
+
+template <typename Other> void replace_uses(statement &s, const Other &other) {
+    for_each_operand(s, [&other](operand &o) { replace_use(o, other); });
+}
+
+template <typename Other> void replace_uses(item &i, const Other &other) {
+    for (statement &s : i.statements) {
+        replace_uses(s, other);
+    }
+    if (auto *lhs = std::get_if<infer>(&i.last)) {
+        replace_use(*lhs, other);
+    } else if (auto *rhs = std::get_if<result>(&i.last)) {
+        replace_use(rhs->value, other);
+    } else if (auto *both = std::get_if<infer_result>(&i.last)) {
+        replace_use(both->replaced, other);
+        replace_use(both->by.value, other);
+    } else if (auto *pair = std::get_if<cand>(&i.last)) {
+        replace_use(pair->replaced, other);
+        replace_use(pair->by, other);
+    }
+}
+
+// What comes in the place of many values.
+class replacements {
+public:
+    // Of pairs of an id and an operand, such as a map has. A value by itself stays, and an id past the end is none.
+    template <typename Pairs> replacements(const Pairs &pairs, std::size_t count) : to(count, nullptr) {
+        static_assert(std::is_lvalue_reference_v<decltype(*std::begin(pairs))>, "the pairs are to be in memory");
+        for (const auto &[of, by] : pairs) {
+            if (of.position < count) {
+                const id *other = std::get_if<id>(&by);
+                to[of.position] = other != nullptr && *other == of ? nullptr : &by;
+            }
+        }
+    }
+
+    // Lets each chain end: where a comes by b and b by c, a comes by c. If a chain comes back to a value, the value's position.
+    std::optional<std::size_t> follow() {
+        std::vector<std::size_t> begin_of(to.size(), SIZE_MAX), chain;
+        for (std::size_t begin = 0; begin < to.size(); begin++) {
+            chain.clear();
+            std::size_t at = begin;
+            while (is_replaced(at) && begin_of[at] == SIZE_MAX) {
+                begin_of[at] = begin;
+                chain.push_back(at);
+                const id *next = std::get_if<id>(to[at]);
+                at = next != nullptr ? next->position : SIZE_MAX;
+            }
+            if (chain.empty()) {
+                continue;
+            }
+            if (is_replaced(at) && begin_of[at] == begin) {
+                return at;
+            }
+            const operand *end = to[is_replaced(at) ? at : chain.back()];
+            for (const std::size_t value : chain) {
+                to[value] = end;
+            }
+        }
+        return std::nullopt;
+    }
+
+    const operand *operator()(id of) const noexcept { return of.position < to.size() ? to[of.position] : nullptr; }
+
+private:
+    bool is_replaced(std::size_t position) const noexcept { return position < to.size() && to[position] != nullptr; }
+
+    std::vector<const operand *> to;
+};
+
+} // namespace detail
+
 /// Puts `by` in the place of each operand of the statement that is the value `of`. Nothing else changes.
 inline void replace_uses(statement &s, id of, operand by) noexcept {
-    for_each_operand(s, [of, &by](operand &o) { detail::replace_use(o, of, by); });
+    detail::replace_uses(s, [of, &by](id used) { return used == of ? &by : nullptr; });
 }
 
 /// Puts `by` in the place of each operand of the item that is the value `of`, also in the last lines. An infer line has a value,
 /// and keeps it if `by` is a constant. Nothing else changes: the blocks of phis and `blockpc`s are no operands. `write` says
 /// whether the item is well formed then.
 inline void replace_uses(item &i, id of, operand by) noexcept {
+    detail::replace_uses(i, [of, &by](id used) { return used == of ? &by : nullptr; });
+}
+
+// ----------------------------------------------------------------
+// The order of statements
+//
+// An id is a position, so these calls renumber the uses of statements that move, in the statements and the last lines. Ids that the
+// program has itself are as before. An assignment whose name is empty gets a name as from a `builder`.
+
+namespace detail {
+
+// The number that a made name has: digits without a zero in front.
+inline std::optional<std::size_t> number_of(std::string_view name) noexcept {
+    if (name.size() < 2 || name.size() > 19 || name[0] != '%' || (name[1] == '0' && name.size() > 2)) {
+        return std::nullopt;
+    }
+    std::size_t number = 0;
+    for (const char digit : name.substr(1)) {
+        if (digit < '0' || digit > '9') {
+            return std::nullopt;
+        }
+        number = 10 * number + static_cast<unsigned char>(digit - '0');
+    }
+    return number;
+}
+
+// Gives each assignment without a name `%` and its position, or the next number that no name has.
+inline void make_names(std::vector<statement> &all) {
+    const auto name_of = [](statement &s) {
+        auto *assigned = std::get_if<assignment>(&s);
+        return assigned != nullptr ? &assigned->name : nullptr;
+    };
+    const auto is_unnamed = [name_of](statement &s) { return name_of(s) != nullptr && name_of(s)->empty(); };
+    if (std::none_of(all.begin(), all.end(), is_unnamed)) {
+        return;
+    }
+    std::unordered_set<std::size_t> given;
+    for (statement &s : all) {
+        const auto number = name_of(s) != nullptr ? number_of(*name_of(s)) : std::nullopt;
+        if (number) {
+            given.insert(*number);
+        }
+    }
+    std::size_t next = 0;
+    for (std::size_t position = 0; position < all.size(); position++) {
+        if (is_unnamed(all[position])) {
+            for (next = std::max(next, position); given.count(next) != 0; next++) {
+            }
+            *name_of(all[position]) = "%" + std::to_string(next++);
+        }
+    }
+}
+
+// Puts `number(used)` in the place of each id of the item.
+template <typename Number> void renumber(item &i, const Number &number) {
+    const auto change = [&number](id &used) { used = number(used); };
     for (statement &s : i.statements) {
-        replace_uses(s, of, by);
+        visit_ids(s, change);
     }
-    if (auto *lhs = std::get_if<infer>(&i.last)) {
-        detail::replace_use(*lhs, of, by);
-    } else if (auto *rhs = std::get_if<result>(&i.last)) {
-        detail::replace_use(rhs->value, of, by);
-    } else if (auto *both = std::get_if<infer_result>(&i.last)) {
-        detail::replace_use(both->replaced, of, by);
-        detail::replace_use(both->by.value, of, by);
-    } else if (auto *pair = std::get_if<cand>(&i.last)) {
-        detail::replace_use(pair->replaced, of, by);
-        detail::replace_use(pair->by, of, by);
+    visit_last_ids(i.last, change);
+}
+
+// The positions of the statements in an order in which each assignment stands before its uses: a walk in depth, from each in turn.
+inline std::vector<std::size_t> sorted(const std::vector<statement> &all) {
+    struct step {
+        std::size_t position;
+        bool uses_are_done;
+    };
+    std::vector<std::size_t> order;
+    order.reserve(all.size());
+    std::vector<bool> seen(all.size());
+    std::vector<step> path;
+    for (std::size_t from = 0; from < all.size(); from++) {
+        path.push_back({from, false});
+        while (!path.empty()) {
+            const step top = path.back();
+            path.pop_back();
+            if (top.uses_are_done) {
+                order.push_back(top.position);
+            } else if (!seen[top.position]) {
+                seen[top.position] = true;
+                path.push_back({top.position, true});
+                const std::size_t begin = path.size();
+                for_each_use(all[top.position], [&](id used) {
+                    if (used.position < all.size() && !seen[used.position] && std::holds_alternative<assignment>(all[used.position])) {
+                        path.push_back({used.position, false});
+                    }
+                });
+                std::reverse(path.begin() + static_cast<std::ptrdiff_t>(begin), path.end());
+            }
+        }
     }
+    return order;
+}
+
+} // namespace detail
+
+/// Puts each assignment before the statements that use it, so that a pass may append statements at the end and then call this. A
+/// statement that stands too late comes right before the first that uses it, and the order of the others stays. Where statements use one
+/// another in a cycle, a use before its definition remains. Returns the new id of each statement, by its position before. It takes time
+/// linear in the item, without recursion.
+inline std::vector<id> sort(item &i) {
+    const std::vector<std::size_t> order = detail::sorted(i.statements);
+    std::vector<id> ids(order.size());
+    std::vector<statement> all;
+    all.reserve(order.size());
+    for (std::size_t position = 0; position < order.size(); position++) {
+        ids[order[position]] = id{position};
+        all.push_back(std::move(i.statements[order[position]]));
+    }
+    i.statements = std::move(all);
+    detail::renumber(i, [&ids](id used) { return used.position < ids.size() ? ids[used.position] : used; });
+    detail::make_names(i.statements);
+    return ids;
+}
+
+/// Inserts a statement before the one at `place`, or at the end if there is none. Returns its id. The statements from `place` on are at
+/// the next position then. The ids in the statement are, as `place` is, those from before. It takes time linear in the item: to insert
+/// many, append them and call `sort`.
+inline id insert_before(item &i, id place, statement inserted) {
+    const id at{std::min(place.position, i.statements.size())};
+    i.statements.push_back(std::move(inserted));
+    detail::renumber(i, [at](id used) {
+        return used.position < at.position || used.position == SIZE_MAX ? used : id{used.position + 1};
+    });
+    std::rotate(i.statements.begin() + static_cast<std::ptrdiff_t>(at.position), i.statements.end() - 1, i.statements.end());
+    detail::make_names(i.statements);
+    return at;
+}
+
+/// Moves the statement `which` before the one at `place`, or to the end if there is none. Returns its new id. The statements between
+/// the two places move by one position. It takes time linear in the item.
+inline id move_before(item &i, id which, id place) {
+    const std::size_t count = i.statements.size(), from = which.position, to = std::min(place.position, count);
+    if (from >= count) {
+        return which;
+    }
+    const std::size_t at = to > from ? to - 1 : to, low = std::min(from, at), high = std::max(from, at);
+    const auto statement_at = [&i](std::size_t position) { return i.statements.begin() + static_cast<std::ptrdiff_t>(position); };
+    std::rotate(statement_at(low), statement_at(at < from ? from : from + 1), statement_at(high + 1));
+    detail::renumber(i, [=](id used) {
+        if (used == which) {
+            return id{at};
+        }
+        return used.position < low || used.position > high ? used : id{at < from ? used.position + 1 : used.position - 1};
+    });
+    detail::make_names(i.statements);
+    return id{at};
 }
 
 // ----------------------------------------------------------------
@@ -697,6 +992,13 @@ inline std::string escaped(std::string_view text) {
 }
 
 inline bool is_utf8(std::string_view text) noexcept {
+    unsigned char all = 0;
+    for (const char byte : text) {
+        all |= static_cast<unsigned char>(byte);
+    }
+    if (all < 0x80) {
+        return true;
+    }
     for (std::size_t length = 1; !text.empty() && length > 0; text.remove_prefix(length)) {
         length = character(text);
     }
@@ -715,12 +1017,15 @@ enum class status : std::uint32_t {
     no_code = SOUPER_NO_CODE,
     not_well_formed = SOUPER_NOT_WELL_FORMED,
     no_flags = SOUPER_NO_FLAGS,
-    stream_ended = 1000 ///< of a `reader`: `finish` came before, or bytes that are not UTF-8
+    stream_ended = 1000, ///< of a `reader`: `finish` came before, or bytes that are not UTF-8
+    cycle                ///< of `replace_uses`: the replacements of a value come back to it
 };
 
 inline std::string to_string(status s) {
     const auto number = static_cast<std::uint32_t>(s);
-    const std::string_view text = s == status::stream_ended ? "the stream has ended" : souper_status_text(number);
+    const std::string_view text = s == status::stream_ended ? "the stream has ended"
+                                  : s == status::cycle      ? "the replacements of a value come back to it"
+                                                            : souper_status_text(number);
     return text == "unknown" ? detail::unknown(number) : std::string(text);
 }
 
@@ -838,7 +1143,7 @@ struct location {
 struct error {
     status what = status::done;
     unsigned input = 0;     ///< refused, not_utf8: which text of the call, 0 the first, 1 the second
-    std::size_t index = 0;  ///< no_code, not_well_formed: which item, from 0
+    std::size_t index = 0;  ///< no_code, not_well_formed: which item, from 0; cycle: the position of such a value
     std::size_t offset = 0; ///< refused: how many bytes were read; no_code, not_well_formed: where the code of the item begins;
                             ///< not_utf8 of a stream: where the first byte is that is in no character
     std::size_t line = 0;   ///< refused: the line of the last of these bytes, or of the first byte if there is none; not_utf8 of a
@@ -900,6 +1205,8 @@ inline std::string message_of(const error &e) {
         return bad_code_text(e.offset, e.why);
     case status::not_well_formed:
         return not_well_formed_text(e.index, e.why);
+    case status::cycle:
+        return "statement " + std::to_string(e.index) + ": " + to_string(e.what);
     case status::stream_ended:
         return to_string(e.what);
     case status::out_of_memory:
@@ -1039,24 +1346,8 @@ private:
         return all += name;
     }
 
-    // The number that a made name has: digits without a zero in front.
-    static std::optional<std::size_t> number_of(std::string_view name) noexcept {
-        name.remove_prefix(1);
-        if (name.empty() || name.size() > 18 || (name.front() == '0' && name.size() > 1)) {
-            return std::nullopt;
-        }
-        std::size_t number = 0;
-        for (const char digit : name) {
-            if (digit < '0' || digit > '9') {
-                return std::nullopt;
-            }
-            number = 10 * number + static_cast<unsigned char>(digit - '0');
-        }
-        return number;
-    }
-
     bool is_new(const std::string &name) const {
-        const auto number = number_of(name);
+        const auto number = detail::number_of(name);
         return given_names.count(name) == 0 && !(number && made_names.count(*number) != 0);
     }
 
@@ -1135,7 +1426,54 @@ inline std::string operand_count_text(const instruction &i) {
 
 inline std::string other_kind_text(kind is, kind wanted) { return "the item is of the kind " + to_string(is) + ", not " + to_string(wanted); }
 
-// Appends the code of items, or of their parts.
+// Bytes that grow at their end. They are not set before they are written.
+class buffer {
+public:
+    std::size_t size() const noexcept { return used; }
+    void keep(std::size_t count) noexcept { used = count; }
+    std::string_view view() const noexcept { return {used > 0 ? bytes.get() : "", used}; }
+    void clear() noexcept { keep(0); }
+
+    // Makes room for so many bytes.
+    void need(std::size_t count) {
+        if (room - used < count) {
+            grow(count);
+        }
+    }
+
+    // Where bytes may be written for which there is room; `wrote` says how many were.
+    std::uint8_t *end() const noexcept { return reinterpret_cast<std::uint8_t *>(bytes.get()) + used; }
+    void wrote(std::size_t count) noexcept { used += count; }
+
+    // Appends bytes for which there is room.
+    void append(std::string_view text) noexcept {
+        std::memcpy(bytes.get() + used, text.data(), text.size());
+        used += text.size();
+    }
+
+    template <typename T> void put(T value) noexcept {
+        std::memcpy(bytes.get() + used, &value, sizeof value);
+        used += sizeof value;
+    }
+
+private:
+    void grow(std::size_t count) {
+        constexpr std::size_t least = 1024;
+        const std::size_t wanted = used + std::max({count, used, least});
+        std::unique_ptr<char[]> more(new char[wanted]);
+        if (used > 0) {
+            std::memcpy(more.get(), bytes.get(), used);
+        }
+        bytes = std::move(more);
+        room = wanted;
+    }
+
+    std::unique_ptr<char[]> bytes;
+    std::size_t used = 0, room = 0;
+};
+
+// Appends the code of items, or of their parts, to a buffer, or to what has its `need`, `append` and `put`. Room is made for the fixed part
+// of what is put, and of a list for all elements.
 template <typename Out> class encoder {
 public:
     explicit encoder(Out &code) noexcept : out(code) {}
@@ -1144,6 +1482,7 @@ public:
     std::optional<flaw> why;
 
     void put(const item &i) {
+        out.need(size_length);
         size(i.statements.size());
         at.location = flaw_location::at_statement;
         for (at.position = 0; at.position < i.statements.size(); at.position++) {
@@ -1151,6 +1490,7 @@ public:
         }
         at.location = last_location(i);
         at.position = 0;
+        out.need(1 + 2 * size_length + 2 * operand_length);
         byte(i.last.index());
         if (const auto *lhs = std::get_if<infer>(&i.last)) {
             put(*lhs);
@@ -1159,15 +1499,17 @@ public:
         } else if (const auto *both = std::get_if<infer_result>(&i.last)) {
             put(both->replaced);
             at.location = flaw_location::at_result;
+            out.need(operand_length);
             put(both->by.value);
         } else if (const auto *pair = std::get_if<cand>(&i.last)) {
             put(pair->replaced);
             put(pair->by);
-            list(pair->attributes);
+            list(pair->attributes, 0);
         }
     }
 
     void put(const statement &s) {
+        out.need(1);
         byte(s.index());
         if (const auto *assigned = std::get_if<assignment>(&s)) {
             put(*assigned);
@@ -1179,22 +1521,26 @@ public:
     }
 
     void put(const assignment &assigned) {
+        // A name, a width, the number of a right side with the fixed part of a phi, and two lists.
+        out.need(assigned.name.size() + width_length + 2 + 4 * size_length);
         size(assigned.name.size());
-        out.append(assigned.name.data(), assigned.name.size());
+        out.append(assigned.name);
         if (!is_utf8(assigned.name)) {
             fail(flaw_reason::name_not_utf8);
         }
         width(assigned.width);
         put(assigned.value);
-        list(assigned.attributes);
+        list(assigned.attributes, 0);
     }
 
     void put(const pc &condition) {
+        out.need(2 * operand_length);
         put(condition.x);
         put(condition.y);
     }
 
     void put(const blockpc &on_block) {
+        out.need(size_length + sizeof on_block.predecessor + 2 * operand_length);
         size(on_block.block.position);
         plain(on_block.predecessor);
         put(on_block.x);
@@ -1202,11 +1548,14 @@ public:
     }
 
     void put(const constant &number) {
-        plain(number.value);
-        width(number.width);
+        out.need(operand_length);
+        put_constant(number);
     }
 
 private:
+    // The lengths of the codes of a size, and of the longest ones of a width and of an operand.
+    static constexpr std::size_t size_length = 8, width_length = 3, operand_length = 1 + sizeof(int128) + width_length;
+
     void fail(flaw_reason reason) {
         if (!why) {
             why = at;
@@ -1214,11 +1563,7 @@ private:
         }
     }
 
-    template <typename T> void plain(T value) {
-        char bytes[sizeof value];
-        std::memcpy(bytes, &value, sizeof value);
-        out.append(bytes, sizeof value);
-    }
+    template <typename T> void plain(T value) { out.put(value); }
 
     // The index of a variant.
     void byte(std::size_t value) {
@@ -1230,14 +1575,17 @@ private:
 
     void size(std::uint64_t value) { plain(value); }
 
-    template <typename T> void list(const std::vector<T> &all) {
+    // The list's length, for which there is room, and its elements.
+    template <typename T> void list(const std::vector<T> &all, std::size_t longest) {
         size(all.size());
+        out.need(all.size() * longest + size_length);
         for (const T &one : all) {
             put(one);
         }
     }
 
     void bits(const std::string &text, std::string_view digits) {
+        out.need(size_length + text.size());
         size(text.size());
         for (const char digit : text) {
             const std::size_t bit = digits.find(digit);
@@ -1263,11 +1611,17 @@ private:
         if (const auto *used = std::get_if<id>(&o)) {
             size(used->position);
         } else if (const auto *number = std::get_if<constant>(&o)) {
-            put(*number);
+            put_constant(*number);
         }
     }
 
+    void put_constant(const constant &number) {
+        plain(number.value);
+        width(number.width);
+    }
+
     void put(const attribute &a) {
+        out.need(1 + 2 * sizeof(int128));
         byte(a.index());
         if (const auto *known = std::get_if<known_bits>(&a)) {
             bits(known->bits, "01x");
@@ -1280,6 +1634,7 @@ private:
     }
 
     void put(const root_attribute &a) {
+        out.need(1);
         byte(a.index());
         if (const auto *demanded = std::get_if<demanded_bits>(&a)) {
             bits(demanded->bits, "01");
@@ -1292,7 +1647,7 @@ private:
             plain(of_block->predecessors);
         } else if (const auto *choice = std::get_if<phi>(&value)) {
             size(choice->block.position);
-            list(choice->values);
+            list(choice->values, operand_length);
         } else if (const auto *computed = std::get_if<instruction>(&value)) {
             if (word(computed->operation).empty()) {
                 fail(flaw_reason::no_operation);
@@ -1300,13 +1655,13 @@ private:
                 fail(flaw_reason::operand_count);
             }
             plain(computed->operation);
-            list(computed->operands);
+            list(computed->operands, operand_length);
         }
     }
 
     void put(const infer &i) {
         size(i.value.position);
-        list(i.attributes);
+        list(i.attributes, 0);
     }
 
     Out &out;
@@ -1338,11 +1693,24 @@ class hash_sink {
 public:
     std::uint64_t hash = 0xcbf29ce484222325U;
 
-    void append(const char *bytes, std::size_t count) noexcept {
-        for (std::size_t i = 0; i < count; i++) {
-            hash = (hash ^ static_cast<unsigned char>(bytes[i])) * 0x100000001b3U;
+    void need(std::size_t) noexcept {}
+
+    void append(std::string_view text) noexcept {
+        for (const char byte : text) {
+            add(static_cast<unsigned char>(byte));
         }
     }
+
+    template <typename T> void put(T value) noexcept {
+        unsigned char bytes[sizeof value];
+        std::memcpy(bytes, &value, sizeof value);
+        for (const unsigned char byte : bytes) {
+            add(byte);
+        }
+    }
+
+private:
+    void add(unsigned char byte) noexcept { hash = (hash ^ byte) * 0x100000001b3U; }
 };
 
 // Equal values have equal codes.
@@ -1352,252 +1720,304 @@ template <typename T> std::size_t hash_of(const T &value) noexcept {
     return sink.hash;
 }
 
-// Reads items from the front of a code. Past a byte that no code has there, or past the end, `good` is false and the values that
-// are read mean nothing. A list is not longer than the bytes that are left allow, so memory is bounded by the length of the code.
+// Reads items from the front of a code. Where a byte is none that a code has there, or bytes are missing, `good` is false and what is read
+// means nothing. A list is not longer than the bytes that are left allow, so memory is bounded by the length of the code.
+//
+// A statement's fixed part, with up to three operands, is read without looking whether its bytes are there, if that many are: `Sure`.
 class decoder {
 public:
-    explicit decoder(std::string_view code) noexcept : rest(code) {}
+    explicit decoder(std::string_view code) noexcept : at(code.data()), end(code.data() + code.size()) {}
 
     bool good = true;
 
     // Where and why a value is none. Nothing if bytes are missing, or a variant has another number.
     std::optional<flaw> why;
 
-    std::size_t left() const noexcept { return rest.size(); }
+    std::size_t left() const noexcept { return static_cast<std::size_t>(end - at); }
 
-    item get_item(kind k) {
-        at.location = flaw_location::at_statement;
-        at.position = 0;
-        item i{list<statement>(least_statement, &decoder::get_statement), {}};
-        at.location = flaw_location::at_infer;
-        at.position = 0;
-        i.last = get_last();
-        at.location = last_location(i);
+    void get_item(kind k, item &i) {
+        place.location = flaw_location::at_statement;
+        place.position = 0;
+        get_list(i.statements, least_statement, [this](statement &s) { get_statement(s); });
+        place.location = flaw_location::at_infer;
+        place.position = 0;
+        get_last(i.last);
+        place.location = last_location(i);
         if (good && kind_of(i) != k) {
             fail(flaw_reason::other_kind, other_kind_text(kind_of(i), k));
         }
-        return i;
     }
 
 private:
-    // The lengths of the shortest codes.
+    // The lengths of the shortest codes, and of the longest one of an operand and of the fixed part of a statement after its name: a width,
+    // a right side of three operands, and the length of the list of attributes.
     static constexpr std::size_t least_operand = 9, least_statement = 19, least_attribute = 1;
-
-    void fail() noexcept {
-        good = false;
-        rest = {};
-    }
+    static constexpr std::size_t operand_length = 20, fixed_length = 3 + 10 + 3 * operand_length + 8;
 
     void fail(flaw_reason reason, std::string text = {}) {
-        why = at;
-        why->reason = reason;
-        why->text = std::move(text);
-        fail();
+        if (good) {
+            why = place;
+            why->reason = reason;
+            why->text = std::move(text);
+        }
+        good = false;
     }
 
-    template <typename T> T plain() noexcept {
-        T value{};
-        if (rest.size() < sizeof value) {
-            fail();
-            return value;
-        }
-        std::memcpy(&value, rest.data(), sizeof value);
-        rest.remove_prefix(sizeof value);
+    // Whether so many bytes are there. Where it is sure, they are, after a failure too.
+    template <bool Sure = false> bool has(std::size_t count) noexcept {
+        good = Sure ? good : good && left() >= count;
+        return Sure || good;
+    }
+
+    // Bytes that are there.
+    template <typename T> T take() noexcept {
+        T value;
+        std::memcpy(&value, at, sizeof value);
+        at += sizeof value;
         return value;
     }
 
+    template <typename T, bool Sure = false> T plain() noexcept { return has<Sure>(sizeof(T)) ? take<T>() : T{}; }
+
     // A byte below a bound.
-    std::uint8_t byte(std::size_t bound) noexcept {
-        const auto value = plain<std::uint8_t>();
-        if (value >= bound) {
-            fail();
-        }
+    template <bool Sure = false> std::uint8_t byte(std::size_t bound) noexcept {
+        const auto value = plain<std::uint8_t, Sure>();
+        good = good && value < bound;
         return value;
     }
 
     // The length of a list whose elements have at least these bytes.
-    std::size_t length(std::size_t least) noexcept {
-        const auto count = plain<std::uint64_t>();
-        if (count > rest.size() / least) {
-            fail();
-        }
+    template <bool Sure = false> std::size_t length(std::size_t least) noexcept {
+        const auto count = plain<std::uint64_t, Sure>();
+        good = good && count <= left() / least;
         return good ? static_cast<std::size_t>(count) : 0;
     }
 
-    template <typename T> std::vector<T> list(std::size_t least, T (decoder::*get)()) {
-        std::vector<T> all;
-        const std::size_t count = length(least);
-        all.reserve(count);
-        while (good && all.size() < count) {
-            all.push_back((this->*get)());
-        }
-        return all;
+    template <typename T, typename Get> void get_list(std::vector<T> &all, std::size_t least, Get get) {
+        get_elements(all, length(least), get);
     }
 
-    std::string text() {
+    template <typename T, typename Get> void get_elements(std::vector<T> &all, std::size_t count, Get get) {
+        if (count > 0) {
+            all.reserve(count);
+        }
+        for (std::size_t i = 0; good && i < count; i++) {
+            get(all.emplace_back());
+        }
+    }
+
+    std::string_view text() noexcept {
         const std::size_t count = length(1);
-        std::string bytes(rest.substr(0, count));
-        rest.remove_prefix(count);
-        return bytes;
+        return {std::exchange(at, at + count), count};
     }
 
-    std::string name() {
-        std::string all = text();
-        if (good && !is_utf8(all)) {
-            fail(flaw_reason::name_not_utf8);
-        }
-        return all;
-    }
-
-    std::string bits(std::string_view digits) {
-        std::string all = text();
-        for (char &bit : all) {
+    void get_bits(std::string &bits, std::string_view digits) {
+        bits = text();
+        for (char &bit : bits) {
             const auto value = static_cast<unsigned char>(bit);
             if (value >= digits.size()) {
                 fail(flaw_reason::no_bit);
-                return all;
+                return;
             }
             bit = digits[value];
         }
-        return all;
     }
 
-    std::optional<std::uint32_t> width() noexcept {
-        return byte(2) == 1 ? std::optional<std::uint32_t>(plain<std::uint16_t>()) : std::nullopt;
-    }
-
-    id get_id() noexcept { return id{plain<std::uint64_t>()}; }
-
-    operand get_operand() {
-        if (byte(2) == 0) {
-            return get_id();
+    template <bool Sure> void get_width(std::optional<std::uint32_t> &width) noexcept {
+        if (byte<Sure>(2) == 1) {
+            width = plain<std::uint16_t, Sure>();
         }
-        const auto value = plain<int128>();
-        return constant{value, width()};
     }
 
-    std::vector<operand> operands() { return list<operand>(least_operand, &decoder::get_operand); }
+    template <bool Sure = false> id get_id() noexcept { return id{plain<std::uint64_t, Sure>()}; }
 
-    attribute get_attribute() {
+    template <bool Sure = false> void get_operand(operand &o) noexcept {
+        if (byte<Sure>(2) == 0) {
+            o = get_id<Sure>();
+            return;
+        }
+        constant number{plain<int128, Sure>()};
+        get_width<Sure>(number.width);
+        o = number;
+    }
+
+    void get_attribute(attribute &a) {
         switch (byte(std::variant_size_v<attribute>)) {
         case 0:
-            return known_bits{bits("01x")};
+            return get_bits(a.emplace<known_bits>().bits, "01x");
         case 1:
-            return power_of_two{};
+            a = power_of_two{};
+            return;
         case 2:
-            return negative{};
+            a = negative{};
+            return;
         case 3:
-            return non_negative{};
+            a = non_negative{};
+            return;
         case 4:
-            return non_zero{};
+            a = non_zero{};
+            return;
         case 5:
-            return has_external_uses{};
+            a = has_external_uses{};
+            return;
         case 6:
-            return sign_bits{plain<std::uint8_t>()};
+            a = sign_bits{plain<std::uint8_t>()};
+            return;
         default:
             const auto low = plain<int128>();
-            return range{low, plain<int128>()};
+            a = range{low, plain<int128>()};
         }
     }
 
-    root_attribute get_root_attribute() {
+    void get_root_attribute(root_attribute &a) {
         if (byte(std::variant_size_v<root_attribute>) == 0) {
-            return demanded_bits{bits("01")};
+            return get_bits(a.emplace<demanded_bits>().bits, "01");
         }
-        return harvested_from_use{};
+        a = harvested_from_use{};
     }
 
-    std::vector<root_attribute> root_attributes() { return list<root_attribute>(least_attribute, &decoder::get_root_attribute); }
-
-    instruction get_instruction() {
-        const auto operation = static_cast<op>(plain<std::uint8_t>());
-        if (good && word(operation).empty()) {
-            fail(flaw_reason::no_operation, no_operation_text(operation));
-        }
-        instruction computed{operation, operands()};
-        if (good && computed.operands.size() != operand_count(operation)) {
-            fail(flaw_reason::operand_count, operand_count_text(computed));
-        }
-        return computed;
+    void get_root_attributes(std::vector<root_attribute> &all) {
+        get_list(all, least_attribute, [this](root_attribute &a) { get_root_attribute(a); });
     }
 
-    right_side get_right_side() {
-        switch (byte(std::variant_size_v<right_side>)) {
+    template <bool Sure> void get_instruction(instruction &computed) {
+        computed.operation = plain<op, Sure>();
+        if (good && word(computed.operation).empty()) {
+            return fail(flaw_reason::no_operation, no_operation_text(computed.operation));
+        }
+        const std::size_t count = length<Sure>(least_operand);
+        if (good && count != operand_count(computed.operation)) {
+            computed.operands.resize(count, id{0});
+            return fail(flaw_reason::operand_count, operand_count_text(computed));
+        }
+        get_elements(computed.operands, count, [this](operand &o) { get_operand<Sure>(o); });
+    }
+
+    template <bool Sure> void get_right_side(right_side &value) {
+        switch (byte<Sure>(std::variant_size_v<right_side>)) {
         case 0:
-            return var{};
+            return;
         case 1:
-            return block{plain<std::uint32_t>()};
+            value = block{plain<std::uint32_t, Sure>()};
+            return;
         case 2: {
-            const id of = get_id();
-            return phi{of, operands()};
+            auto &choice = value.emplace<phi>(phi{get_id<Sure>()});
+            get_list(choice.values, least_operand, [this](operand &o) { get_operand(o); });
+            return;
         }
         case 3:
-            return reservedinst{};
+            value = reservedinst{};
+            return;
         case 4:
-            return reservedconst{};
+            value = reservedconst{};
+            return;
         default:
-            return get_instruction();
+            get_instruction<Sure>(value.emplace<instruction>());
         }
     }
 
-    statement get_statement() {
+    template <bool Sure> void get_rest(assignment &assigned) {
+        get_width<Sure>(assigned.width);
+        get_right_side<Sure>(assigned.value);
+    }
+
+    void get_assignment(assignment &assigned) {
+        assigned.name = text();
+        if (!is_utf8(assigned.name)) {
+            fail(flaw_reason::name_not_utf8);
+        }
+        if (left() >= fixed_length) {
+            get_rest<true>(assigned);
+        } else {
+            get_rest<false>(assigned);
+        }
+        get_list(assigned.attributes, least_attribute, [this](attribute &a) { get_attribute(a); });
+        if (why) {
+            why->name = assigned.name;
+        }
+    }
+
+    void get_statement(statement &s) {
         const auto which = byte(std::variant_size_v<statement>);
         if (which == 0) {
-            assignment assigned{name(), width(), get_right_side(), {}};
-            assigned.attributes = list<attribute>(least_attribute, &decoder::get_attribute);
-            if (why) {
-                why->name = assigned.name;
-            }
-            at.position++;
-            return assigned;
+            get_assignment(*std::get_if<assignment>(&s));
+        } else if (which == 1) {
+            auto &condition = s.emplace<pc>();
+            get_operand(condition.x);
+            get_operand(condition.y);
+        } else {
+            auto &on_block = s.emplace<blockpc>(blockpc{get_id(), plain<std::uint32_t>(), {}, {}});
+            get_operand(on_block.x);
+            get_operand(on_block.y);
         }
-        at.position++;
-        if (which == 1) {
-            return pc{get_operand(), get_operand()};
-        }
-        return blockpc{get_id(), plain<std::uint32_t>(), get_operand(), get_operand()};
+        place.position++;
     }
 
-    infer get_infer() { return infer{get_id(), root_attributes()}; }
+    void get_infer(infer &line) {
+        line.value = get_id();
+        get_root_attributes(line.attributes);
+    }
 
-    last_lines get_last() {
+    void get_last(last_lines &last) {
         switch (byte(std::variant_size_v<last_lines>)) {
         case 0:
-            return get_infer();
+            return get_infer(*std::get_if<infer>(&last));
         case 1:
-            return result{get_operand()};
-        case 2:
-            return infer_result{get_infer(), {get_operand()}};
+            return get_operand(last.emplace<result>().value);
+        case 2: {
+            auto &both = last.emplace<infer_result>();
+            get_infer(both.replaced);
+            return get_operand(both.by.value);
+        }
         default:
-            at.location = flaw_location::at_cand;
-            return cand{get_operand(), get_operand(), root_attributes()};
+            place.location = flaw_location::at_cand;
+            auto &pair = last.emplace<cand>();
+            get_operand(pair.replaced);
+            get_operand(pair.by);
+            get_root_attributes(pair.attributes);
         }
     }
 
-    std::string_view rest;
+    const char *at, *end;
 
     // The place of what is read.
-    flaw at = {};
+    flaw place = {};
 };
 
-// The code of items, which are to be of the kind, if one is given. (Of a kind that is none the library says so.)
-inline bool encode(std::optional<kind> wanted, const item *items, std::size_t count, std::string &code, error &e) {
-    encoder<std::string> to(code);
-    for (std::size_t i = 0; i < count; i++) {
-        e.offset = code.size();
-        to.put(items[i]);
-        if (!to.why && wanted && !word(*wanted).empty() && kind_of(items[i]) != *wanted) {
-            to.why = flaw{last_location(items[i]), flaw_reason::other_kind};
+// What is read or written at once, in bytes: so much that calls are few, and so little that it stays in the processor's cache.
+constexpr std::size_t part_length = 1 << 15;
+
+// Appends the code of items from `next` on, which are to be of the kind, if one is given: up to the last, or to the one with which the code
+// is as long as a part. (Of a kind that is none the library says so.)
+inline bool encode_part(std::optional<kind> wanted, const item *items, std::size_t count, std::size_t &next, buffer &code, error &e) {
+    encoder<buffer> to(code);
+    for (; next < count && code.size() < part_length; next++) {
+        const std::size_t begin = code.size();
+        to.put(items[next]);
+        if (!to.why && wanted && !word(*wanted).empty() && kind_of(items[next]) != *wanted) {
+            to.why = flaw{last_location(items[next]), flaw_reason::other_kind};
         }
         if (to.why) {
-            describe(*to.why, items[i], wanted);
+            describe(*to.why, items[next], wanted);
             e.what = status::not_well_formed;
-            e.index = i;
+            e.index = next;
+            e.offset = begin;
             e.why = std::move(to.why);
             return false;
         }
     }
-    e.offset = 0;
+    return true;
+}
+
+inline bool encode(const item *items, std::size_t count, std::string &out, error &e) {
+    buffer code;
+    for (std::size_t next = 0; next < count; code.clear()) {
+        if (!encode_part(std::nullopt, items, count, next, code, e)) {
+            e.offset += out.size();
+            return false;
+        }
+        out += code.view();
+    }
     return true;
 }
 
@@ -1609,7 +2029,7 @@ inline bool decode(kind k, std::string_view code, std::vector<item> &items, erro
     decoder from(code);
     while (from.left() > 0) {
         const std::size_t begin = code.size() - from.left();
-        items.push_back(from.get_item(k));
+        from.get_item(k, items.emplace_back());
         if (!from.good) {
             e.what = status::no_code;
             e.index = items.size() - 1;
@@ -1637,20 +2057,22 @@ inline void report(const SouperOutcome &outcome, error &e) noexcept {
     e.column = outcome.column;
 }
 
-// What a call writes to a buffer that is long enough; `room` is the first guess at its length.
-template <typename Call> bool collect(std::string &out, std::size_t room, error &e, Call call) {
+// What a call writes to the buffer; `room` is the first guess at its length, which ordinary input does not exceed. If it is too short, the
+// call does its work again.
+template <typename Call> bool collect(buffer &out, std::size_t room, error &e, Call call) {
     SouperOutcome outcome;
     do {
-        out.resize(room);
-        outcome = call(reinterpret_cast<std::uint8_t *>(out.data()), out.size());
+        out.clear();
+        out.need(room);
+        outcome = call(out.end(), room);
         room = outcome.length;
     } while (outcome.status == SOUPER_SHORT);
-    out.resize(outcome.status == SOUPER_DONE || outcome.status == SOUPER_REFUSED ? outcome.length : 0);
+    out.wrote(outcome.status == SOUPER_DONE || outcome.status == SOUPER_REFUSED ? outcome.length : 0);
     if (outcome.status == SOUPER_DONE) {
         return true;
     }
     report(outcome, e);
-    e.shown.swap(out);
+    e.shown = out.view();
     return false;
 }
 
@@ -1684,34 +2106,83 @@ inline void locate(kind k, std::string_view text, error &e) {
     }
 }
 
-// What a call writes for a text, which is located if it is refused.
-template <typename Call> bool collect_of(kind k, std::string_view text, std::string &out, std::size_t room, error &e, Call call) {
-    if (collect(out, room, e, call)) {
-        return true;
+// The first items of a text: up to the last cut between two in the first bytes, `length` of them or, if they have none, more.
+inline std::string_view first_part(kind k, std::string_view text, std::size_t length) noexcept {
+    for (; length < text.size(); length *= 4) {
+        const SouperOutcome cut = souper_last_cut(static_cast<std::uint32_t>(k), bytes(text), length);
+        if (cut.status != SOUPER_DONE || cut.length > 0) {
+            return cut.status == SOUPER_DONE ? text.substr(0, cut.length) : text;
+        }
     }
-    locate(k, text, e);
-    return false;
+    return text;
+}
+
+// What an error shows is mostly shorter.
+constexpr std::size_t shown_length = 4096;
+
+// Gives `take` what a call writes for each part of a text, which is cut between items; the first guess is so many times its length. If a
+// part is refused, the whole text is read, in which the error has its place.
+template <typename Output, typename Call, typename Take>
+bool in_parts(kind k, std::string_view text, std::size_t times, Output &out, error &e, Call call, Take take) {
+    buffer written;
+    std::string_view rest = text;
+    for (std::size_t length = part_length;;) {
+        const std::string_view part = first_part(k, rest, length);
+        const auto of_part = [&](std::uint8_t *to, std::size_t room) { return call(part, to, room); };
+        if (collect(written, times * part.size() + shown_length, e, of_part)) {
+            if (!take(written.view())) {
+                return false;
+            }
+            rest.remove_prefix(part.size());
+            if (rest.empty()) {
+                return true;
+            }
+        } else if (part.size() == text.size() || (e.what != status::refused && e.what != status::not_utf8)) {
+            locate(k, text, e);
+            return false;
+        } else {
+            out = Output{};
+            e = error();
+            rest = text;
+            length = text.size();
+            times = 0;
+        }
+    }
+}
+
+// The same, to a string.
+template <typename Call> bool text_in_parts(kind k, std::string_view text, std::size_t times, std::string &out, error &e, Call call) {
+    return in_parts(k, text, times, out, e, call, [&out](std::string_view written) {
+        out += written;
+        return true;
+    });
 }
 
 inline bool format(kind k, std::string_view text, std::string &out, error &e) {
-    return collect_of(k, text, out, text.size() + text.size() / 4 + 256, e, [k, text](std::uint8_t *to, std::size_t room) {
-        return souper_format(static_cast<std::uint32_t>(k), bytes(text), text.size(), to, room);
+    return text_in_parts(k, text, 2, out, e, [k](std::string_view part, std::uint8_t *to, std::size_t room) {
+        return souper_format(static_cast<std::uint32_t>(k), bytes(part), part.size(), to, room);
     });
+}
+
+// The record of `result 1` has nine times its length.
+constexpr std::size_t times_of_record = 10;
+
+inline auto key_of(kind k, flags f) noexcept {
+    return [k, f](std::string_view part, std::uint8_t *to, std::size_t room) {
+        return souper_key(static_cast<std::uint32_t>(k), static_cast<std::uint32_t>(f), bytes(part), part.size(), to, room);
+    };
 }
 
 inline bool key(kind k, std::string_view text, flags f, std::string &out, error &e) {
-    return collect_of(k, text, out, text.size() + text.size() / 4 + 256, e, [k, text, f](std::uint8_t *to, std::size_t room) {
-        return souper_key(static_cast<std::uint32_t>(k), static_cast<std::uint32_t>(f), bytes(text), text.size(), to, room);
-    });
+    return text_in_parts(k, text, times_of_record, out, e, key_of(k, f));
 }
 
+// The code of `%1=fshl 1,2,3` has six times its length.
 inline bool read(kind k, std::string_view text, std::vector<item> &items, error &e) {
-    std::string code;
-    return collect_of(k, text, code, 3 * text.size() + 256, e,
-                      [k, text](std::uint8_t *to, std::size_t room) {
-                          return souper_read(static_cast<std::uint32_t>(k), bytes(text), text.size(), to, room);
-                      })
-        && decode(k, code, items, e);
+    const auto call = [k](std::string_view part, std::uint8_t *to, std::size_t room) {
+        return souper_read(static_cast<std::uint32_t>(k), bytes(part), part.size(), to, room);
+    };
+    return in_parts(k, text, 7, items, e, call, [&](std::string_view code) { return decode(k, code, items, e); });
 }
 
 // The first flaw of an item, with whose code the bytes begin.
@@ -1729,21 +2200,38 @@ inline std::optional<flaw> flaw_of(kind k, std::string_view code, const item &on
 }
 
 inline bool write(kind k, const item *items, std::size_t count, std::string &out, error &e) {
-    std::string code;
-    if (!encode(k, items, count, code, e)) {
-        return false;
-    }
-    if (collect(out, code.size() + 256, e, [k, &code](std::uint8_t *to, std::size_t room) {
-            return souper_write(static_cast<std::uint32_t>(k), bytes(code), code.size(), to, room);
-        })) {
-        return true;
-    }
-    if (e.what == status::not_well_formed && e.index < count && e.offset <= code.size()) {
-        e.why = flaw_of(k, std::string_view(code).substr(e.offset), items[e.index]);
-    }
-    // A library of another version may have other codes.
-    e.what = e.what == status::no_code ? status::not_well_formed : e.what;
-    return false;
+    buffer code, text;
+    std::size_t next = 0, before = 0; // the items, and the bytes of code, that are written
+    const auto call = [k, &code](std::uint8_t *to, std::size_t room) {
+        return souper_write(static_cast<std::uint32_t>(k), bytes(code.view()), code.size(), to, room);
+    };
+    do {
+        const std::size_t first = next;
+        error of_item;
+        code.clear();
+        const bool is_coded = encode_part(k, items, count, next, code, of_item);
+        // The items before one that has no code come first.
+        const std::size_t length = is_coded ? code.size() : of_item.offset;
+        code.keep(length);
+        if (!collect(text, 2 * length + shown_length, e, call)) {
+            if (e.what == status::not_well_formed && e.index < next - first && e.offset <= length) {
+                e.why = flaw_of(k, code.view().substr(e.offset), items[first + e.index]);
+            }
+            // A library of another version may have other codes.
+            e.what = e.what == status::no_code ? status::not_well_formed : e.what;
+            e.index += e.what == status::not_well_formed ? first : 0;
+            e.offset += e.what == status::not_well_formed ? before : 0;
+            return false;
+        }
+        before += length;
+        if (!is_coded) {
+            e = std::move(of_item);
+            e.offset = before;
+            return false;
+        }
+        out += text.view();
+    } while (next < count);
+    return true;
 }
 
 inline bool canonical(kind k, const item *items, std::size_t count, std::vector<item> &out, error &e) {
@@ -1754,16 +2242,15 @@ inline bool canonical(kind k, const item *items, std::size_t count, std::vector<
 // Each record is `; `, the key, a newline, the text and a byte 0.
 inline bool records(kind k, std::string_view text, bool rename, std::vector<record> &out, error &e) {
     constexpr std::size_t digits = 64, before = 2, head = before + digits + 1;
-    std::string all;
-    if (!key(k, text, flags::key | flags::null | (rename ? flags::rename : flags::none), all, e)) {
-        return false;
-    }
-    for (std::size_t at = 0; at < all.size();) {
-        const std::size_t end = all.find('\0', at);
-        out.push_back(record{all.substr(at + before, digits), all.substr(at + head, end - at - head)});
-        at = end + 1;
-    }
-    return true;
+    const flags f = flags::key | flags::null | (rename ? flags::rename : flags::none);
+    return in_parts(k, text, times_of_record, out, e, key_of(k, f), [&out](std::string_view all) {
+        for (std::size_t at = 0; at < all.size();) {
+            const std::size_t end = all.find('\0', at);
+            out.push_back(record{std::string(all.substr(at + before, digits)), std::string(all.substr(at + head, end - at - head))});
+            at = end + 1;
+        }
+        return true;
+    });
 }
 
 // The texts of items, each of which a newline ends and an empty line follows.
@@ -1779,17 +2266,18 @@ inline std::vector<std::string> texts(std::string_view all) {
 
 // What is written for a left-hand side ends with a byte 0.
 inline bool find(std::string_view store, std::string_view queries, std::vector<std::vector<std::string>> &answers, error &e) {
-    std::string all;
-    if (!collect(all, 2 * queries.size() + 256, e, [store, queries](std::uint8_t *to, std::size_t room) {
+    buffer out;
+    // A second call reads the store again, and room that is not written costs nothing.
+    if (!collect(out, 4 * queries.size() + 2 * store.size() + shown_length, e, [store, queries](std::uint8_t *to, std::size_t room) {
             return souper_find(bytes(store), store.size(), bytes(queries), queries.size(), to, room);
         })) {
         locate(e.input == 0 ? kind::rep : kind::lhs, e.input == 0 ? store : queries, e);
         return false;
     }
-    for (std::size_t at = 0; at < all.size();) {
-        const std::size_t end = all.find('\0', at);
-        answers.push_back(texts(std::string_view(all).substr(at, end - at)));
-        at = end + 1;
+    for (std::string_view all = out.view(); !all.empty();) {
+        const std::size_t end = all.find('\0');
+        answers.push_back(texts(all.substr(0, end)));
+        all.remove_prefix(end + 1);
     }
     return true;
 }
@@ -1931,12 +2419,27 @@ inline namespace SOUPER_FORM {
 /// See `encode`.
 [[nodiscard]] inline bool try_encode(const std::vector<item> &items, std::string &code, error &e) noexcept {
     return detail::guarded(code, e,
-                           [&](auto &o, error &why) { return detail::encode(std::nullopt, items.data(), items.size(), o, why); });
+                           [&](auto &o, error &why) { return detail::encode(items.data(), items.size(), o, why); });
 }
 
 /// See `decode`.
 [[nodiscard]] inline bool try_decode(kind k, std::string_view code, std::vector<item> &items, error &e) noexcept {
     return detail::guarded(items, e, [&](auto &o, error &why) { return detail::decode(k, code, o, why); });
+}
+
+/// See `replace_uses`.
+template <typename Pairs> [[nodiscard]] bool try_replace_uses(item &i, const Pairs &pairs, error &e) noexcept {
+    bool done = false;
+    return detail::guarded(done, e, [&](bool &, error &why) {
+        detail::replacements all(pairs, i.statements.size());
+        if (const auto value = all.follow()) {
+            why.what = status::cycle;
+            why.index = *value;
+            return false;
+        }
+        detail::replace_uses(i, all);
+        return true;
+    });
 }
 
 /// What `write` returns. If it is not done, nothing is printed, and the stream fails.
@@ -2030,6 +2533,7 @@ namespace detail {
         throw e.line > 0 ? not_utf8(e.offset, e.line) : not_utf8(e.input);
     case status::no_kind:
     case status::no_flags:
+    case status::cycle:
         throw std::invalid_argument(e.message);
     case status::no_code:
         throw bad_code(e.index, e.offset, e.why);
@@ -2126,6 +2630,13 @@ inline std::vector<record> records(kind k, std::string_view text, bool rename = 
 inline std::vector<std::vector<std::string>> find(std::string_view store, std::string_view queries) {
     return detail::output<std::vector<std::vector<std::string>>>(
         [&](std::vector<std::vector<std::string>> &out, error &e) { return try_find(store, queries, out, e); });
+}
+
+/// Puts an operand in the place of each use of each value that `pairs` has, such as a `std::map<id, operand>`, in one walk, as the other
+/// `replace_uses` does of one value. What comes in the place of a value is replaced in turn: of a by b and b by 5, both become 5. Throws
+/// `std::invalid_argument`, and nothing changes, if this comes back to a value; a value by itself stays.
+template <typename Pairs> void replace_uses(item &i, const Pairs &pairs) {
+    detail::output<bool>([&](bool &, error &e) { return try_replace_uses(i, pairs, e); });
 }
 
 /// The code of items, which `decode` and souper_write read. Throws `not_well_formed` if an item has a value without a code: the reasons

@@ -35,7 +35,7 @@ from unittest import mock
 
 import souper
 from souper import Assignment, BlockPc, Builder, Constant, Infer, Instruction, Item, Kind, Op
-from souper import Pc, Phi, Value, Var, _library, draw
+from souper import Pc, Phi, Value, Var, _decoder, _library, _values, draw
 
 HERE = Path(__file__).resolve().parent
 ROOT = HERE.parent.parent
@@ -752,6 +752,156 @@ class Values(unittest.TestCase):
             self.assertRaises(TypeError, souper.encode, item.kind, [item])
 
 
+class ReadItems(unittest.TestCase):
+    """Items that were read: their values are made when they are first asked for."""
+
+    TEXT = "%x:i8 = var  %y = add %x, 1  pc %y 0  infer %y (harvestedFromUse)  %x = var  infer %x"
+
+    def counted(self) -> mock.Mock:
+        """Counts the items that get values, until the test ends."""
+        counted = mock.Mock(side_effect=_values.Coded._values_of_code)
+        patched = mock.patch.object(_values.Coded, "_values_of_code", counted)
+        patched.start()
+        self.addCleanup(patched.stop)
+        return counted
+
+    def test_reading_and_writing_make_no_values(self) -> None:
+        counted = self.counted()
+        items = souper.read("lhs", self.TEXT)
+        text = souper.format("lhs", self.TEXT)
+        self.assertEqual(souper.write("lhs", items), text)
+        self.assertEqual(souper.write("lhs", reversed(items[::-1])), text)
+        self.assertEqual([item.kind for item in items], [Kind.LHS] * 2)
+        self.assertEqual(len(souper.encode("lhs", items[:1])), len(items[0]._code))
+        self.assertEqual(counted.call_count, 0)
+        self.assertEqual(len(items[0].statements), 3)
+        for _ in range(3):
+            self.assertEqual(items[0].ending, Infer(Value(1), (souper.HarvestedFromUse(),)))
+        self.assertEqual(counted.call_count, 1)
+        self.assertEqual(souper.write("lhs", items), text)
+        self.assertEqual(counted.call_count, 1)
+
+    def test_each_field_may_be_the_first(self) -> None:
+        made = Item((Assignment("%x", None, Var()),), Infer(Value(0)))
+        uses: list[Callable[[Item], object]] = [
+            lambda item: item.statements,
+            lambda item: item.ending,
+            lambda item: item == made,
+            lambda item: made == item,
+            hash,
+            repr,
+            lambda item: replace(item, ending=Infer(Value(7))),
+            lambda item: item.assignment(Value(0)),
+            lambda item: item.replace_uses(Value(0), Value(3)),
+            lambda item: pickle.loads(pickle.dumps(item)),
+            lambda item: Builder(item.statements).infer(Value(0)),
+            lambda item: [item.users().of(0), item.sort(), item.insert_before(1, made.statements[0])],
+        ]
+        for use in uses:
+            [_, item] = souper.read("lhs", self.TEXT)
+            self.assertEqual(use(item), use(made))
+        match souper.read("lhs", self.TEXT)[1]:
+            case Item((Assignment("%x"),), Infer(Value(0))):
+                pass
+            case _:
+                self.fail("a pattern")
+
+    def test_values_stay(self) -> None:
+        items = souper.read("lhs", self.TEXT)
+        self.assertIs(items[0].statements, items[0].statements)
+        for name in ("statements", "ending"):
+            self.assertRaises(FrozenInstanceError, setattr, items[1], name, ())
+            self.assertRaises(FrozenInstanceError, delattr, items[1], name)
+        for name in ("_code", "_end", "other"):
+            self.assertRaises((AttributeError, TypeError), setattr, items[1], name, ())
+            self.assertRaises((AttributeError, TypeError), delattr, items[1], name)
+        sum_of_x = items[0].assignment(Value(1))
+        self.assertRaises(FrozenInstanceError, setattr, sum_of_x, "name", "%z")
+        self.assertRaises(FrozenInstanceError, setattr, sum_of_x.value, "op", Op.SUB)
+
+    def test_other_names_are_no_fields(self) -> None:
+        [item, _] = souper.read("lhs", self.TEXT)
+        for name in ("statement", "_repr_html_", "__array__"):
+            with self.assertRaises(AttributeError) as raised:
+                getattr(item, name)
+            self.assertEqual(str(raised.exception), f"'Item' object has no attribute '{name}'")
+        self.assertRaises(AttributeError, getattr, object.__new__(Item), "statements")
+        self.assertFalse(hasattr(Item((), Infer(Value(0))), "_code"))
+
+    def test_an_item_of_another_kind(self) -> None:
+        [item, _] = souper.read("lhs", self.TEXT)
+        with self.assertRaises(ValueError) as raised:
+            souper.write("rhs", [item])
+        self.assertEqual(str(raised.exception), "item 0 has no code: it is of the kind lhs, not rhs")
+
+    def test_forms_without_a_pattern(self) -> None:
+        x, block = Assignment("%x", 8, Var()), Assignment("%b", None, souper.Block(40))
+        facts = (souper.NonZero(), souper.KnownBits("01x" * 9), souper.SignBits(3), souper.Range(-5, 9))
+        demanded = tuple(souper.DemandedBits("01" * n) for n in (1, 9, 70))
+        for n in range(12):
+            statements = (
+                x,
+                block,
+                Assignment("%" + "n" * (10 * n + 1), n, Phi(Value(1), (Value(0),) * n), facts[: n % 5]),
+                BlockPc(Value(1), n, Value(0), Constant(2**127 - 1 - n, 65535)),
+                Assignment("é\0%" * n, None, souper.Block(n), (souper.KnownBits("x" * n),)),
+            )
+            value, bits = Value(n << 60), demanded[: n % 4]
+            for ending in (Infer(value, bits), souper.Result(value), souper.Cand(value, value, bits)):
+                items = [Item(statements, ending), Item((), ending)]
+                code = souper.encode(items[0].kind, items)
+                found = souper.decode(items[0].kind, code)
+                self.assertEqual(found, items)
+                self.assertEqual(souper.encode(items[0].kind, found), code)
+            replaced = Item(statements, souper.Replace(Infer(value, bits), value))
+            self.assertEqual(souper.decode("rep", souper.encode("rep", [replaced])), [replaced])
+
+    def test_what_is_kept_is_bounded(self) -> None:
+        kept = _decoder._Kept(bytes.decode, 4)
+        for n in range(100):
+            self.assertEqual(kept[b"%d" % (n % 10)], str(n % 10))
+            self.assertLessEqual(len(kept), 4)
+        self.assertEqual(kept[b"n" * 64], "n" * 64)
+        self.assertNotIn(b"n" * 64, kept)
+
+    def test_threads_ask_for_one_item(self) -> None:
+        text = "%x = var  " + "pc %x 1  " * 2000 + "infer %x"
+        for _ in range(20):
+            [item] = souper.read("lhs", text)
+            with concurrent.futures.ThreadPoolExecutor(4) as pool:
+                found = list(pool.map(lambda n: (item.ending, item.statements), range(4)))
+            self.assertEqual(found, [(item.ending, item.statements)] * 4)
+
+    def test_statements_are_dropped_once(self) -> None:
+        items = souper.read("lhs", "%x = var infer %x " * 600)
+        first = items[0].statements
+        counted = self.counted()
+        self.assertIs(items[0].statements, first)
+        for turn, count in enumerate((599, 600, 0)):
+            for item in items[turn == 0 :]:
+                self.assertEqual((item.statements, item.ending), (first, Infer(Value(0))))
+            self.assertLessEqual(counted.call_count, count)
+            counted.reset_mock()
+        self.assertIs(items[0].statements, items[0].statements)
+        # A large item keeps them.
+        [large] = souper.read("lhs", "%x = var " + "pc %x 1 " * 64 + "infer %x")
+        statements = large.statements
+        self.assertEqual(len({item.statements for item in souper.read("rhs", "result 1 " * 600)}), 1)
+        self.assertIs(large.statements, statements)
+
+    def test_a_walk_takes_little_memory(self) -> None:
+        text = "".join(f"%x:i8 = var\n%y = add %x, {n}\ninfer %y\n" for n in range(20_000))
+        tracemalloc.start()
+        items = souper.read("lhs", text)
+        before = tracemalloc.get_traced_memory()[0]
+        self.assertLess(before, 400 * len(items))
+        self.assertEqual(sum(len(item.statements) for item in items), 40_000)
+        after = tracemalloc.get_traced_memory()[0]
+        tracemalloc.stop()
+        # What is kept of codes is bounded.
+        self.assertLess(after - before, 12_000_000)
+
+
 class Changes(unittest.TestCase):
     """What statements use, and operands that are replaced."""
 
@@ -839,6 +989,334 @@ class Changes(unittest.TestCase):
             self.assertRaisesRegex(TypeError, "of is a Value", value.replace_uses, none, 1)
             self.assertRaisesRegex(TypeError, "of is a Value", value.replace_uses, 0, 1)
             self.assertRaisesRegex(TypeError, "by is a Value, ", value.replace_uses, self.X, none)
+
+
+class Passes(unittest.TestCase):
+    """Users, values that are replaced at once, statements that are inserted, moved and sorted."""
+
+    BEGUN = Changes.BEGUN
+    X, B, P, ON_BLOCK, Y, CONDITION = map(Value, range(6))
+
+    def one(self, kind: str, text: str) -> Item:
+        [item] = souper.read(kind, text)
+        return item
+
+    def unnamed(self, op: Op, *operands: souper.Operand, width: int | None = None) -> Assignment:
+        return Assignment("", width, Instruction(op, operands))
+
+    def test_users(self) -> None:
+        users = self.one("rep", self.BEGUN + "infer %y result %x").users()
+        found = [users.of(position) for position in range(7)]
+        self.assertEqual(found, [(2, 3, 4), (2, 3), (4, 5), (), (5,), (), ()])
+        self.assertEqual(users.of(self.X), (2, 3, 4))
+        in_last = [users.in_last_lines(Value(position)) for position in range(7)]
+        self.assertEqual(in_last, [True, False, False, False, True, False, False])
+        twice = self.one("lhs", "%x = var %y = mul %x, %x infer %y").users()
+        self.assertEqual(twice.of(0), (1,))
+        none = Item((Pc(Value(7), Value(2**64 - 1)),), souper.Result(Value(7))).users()
+        self.assertEqual((none.of(0), none.in_last_lines(0), none.in_last_lines(7)), ((), False, True))
+        for last, used in (("cand %x %p", (self.X, self.P)), ("infer %p result 1", (self.P,))):
+            users = self.one("rep", self.BEGUN + last).users()
+            self.assertEqual(tuple(filter(users.in_last_lines, map(Value, range(6)))), used)
+        self.assertRaisesRegex(ValueError, "^a position -1 is not in", users.of, -1)
+        none_at_all: Any = "%x"
+        self.assertRaisesRegex(TypeError, "^a position is an int, not str$", users.of, none_at_all)
+
+    def becomes(self, kind: str, last: str, pairs: dict[Value, Any], wanted: str) -> None:
+        item = self.one(kind, self.BEGUN + last)
+        self.assertEqual(item.replace_many(pairs), self.one(kind, wanted))
+        self.assertEqual(item, self.one(kind, self.BEGUN + last))
+
+    def test_many_values(self) -> None:
+        by_7 = "%x = var %b = block 2 %p = phi %b, 7, 1 blockpc %b 1 7 0 %y = add %p, 7 pc %y %p "
+        for by in (7, Constant(7)):
+            self.becomes("lhs", "infer %y", {self.X: by}, by_7 + "infer %y")
+        chain = "%x = var %b = block 2 %p = phi %b, %x, 1 blockpc %b 1 %x 0 %y = add %x, %x pc %x %x "
+        self.becomes("lhs", "infer %y", {self.Y: self.P, self.P: self.X}, chain + "infer %x")
+        self.becomes("rep", "cand %y %p", {self.P: self.X, self.Y: self.P}, chain + "cand %x %x")
+        by_5 = "%x = var %b = block 2 %p = phi %b, 5, 1 blockpc %b 1 5 0 %y = add 5, 5 pc 5 5 "
+        to_5 = {self.Y: self.P, self.P: self.X, self.X: Constant(5)}
+        root = "infer %y (harvestedFromUse)"
+        self.becomes("lhs", root, to_5, by_5 + root)
+        self.becomes("rhs", "result %p", to_5, by_5 + "result 5")
+        self.becomes("rep", "infer %p result %p", to_5, by_5 + "infer %p result 5")
+        self.becomes("rep", "cand %p %x", to_5, by_5 + "cand 5 5")
+        # Blocks, values by themselves, and positions past the end.
+        item = self.one("lhs", self.BEGUN + "infer %y")
+        none = {self.B: self.X, self.X: self.X, Value(6): self.X, Value(2**64 - 1): self.X}
+        self.assertIs(item.replace_many(none), item)
+        self.assertIs(item.replace_many({}), item)
+        past = self.one("rhs", "%x = var result %x").replace_many({Value(0): Value(9)})
+        self.assertEqual(past.ending, souper.Result(Value(9)))
+
+    def test_cycles(self) -> None:
+        item = self.one("lhs", self.BEGUN + "infer %y")
+        for pairs, shown in (
+            ({self.X: self.P, self.P: self.X}, "statement 0 (%x)"),
+            ({self.X: self.P, self.P: self.Y, self.Y: self.P}, "statement 2 (%p)"),
+            ({self.X: Constant(1), self.P: self.Y, self.Y: self.P}, "statement 2 (%p)"),
+            ({Value(3): Value(9), Value(9): Value(3)}, "statement 3"),
+            ({Value(8): Value(9), Value(9): Value(8)}, "statement 8"),
+        ):
+            with self.assertRaises(ValueError) as raised:
+                item.replace_many(pairs)
+            self.assertEqual(str(raised.exception), f"{shown}: its replacements come back to it")
+        none: Any = None
+        self.assertRaisesRegex(TypeError, "^pairs is a mapping", item.replace_many, none or [(self.X, 1)])
+        self.assertRaisesRegex(TypeError, "^of is a Value, not int", item.replace_many, {none or 0: 1})
+        self.assertRaisesRegex(TypeError, "^by is a Value, a C", item.replace_many, {self.X: none})
+
+    def test_inserted(self) -> None:
+        item = self.one("lhs", "%x:i8 = var %y:i8 = mul %x, 3:i8 pc %y 0 infer %y")
+        shift = self.unnamed(Op.SHL, self.X, Constant(1, 8), width=8)
+        found = item.insert_before(Value(1), shift)
+        text = "%x:i8 = var %1:i8 = shl %x, 1:i8 %y:i8 = mul %x, 3:i8 pc %y 0 infer %y"
+        self.assertEqual(found, self.one("lhs", text))
+        self.assertEqual(item.insert_before(1, shift), found)
+        self.assertEqual(len(item.statements), 3)
+        # Blocks, and the end.
+        item = self.one("rep", self.BEGUN + "infer %y result %x")
+        wanted = self.BEGUN.replace("%b = block", "%c = var %b = block") + "infer %y result %x"
+        self.assertEqual(item.insert_before(self.B, Assignment("%c", None, Var())), self.one("rep", wanted))
+        for place in (6, 7, Value(2**64 - 1)):
+            wanted = self.BEGUN + "pc %x %p infer %y result %x"
+            self.assertEqual(item.insert_before(place, Pc(self.X, self.P)), self.one("rep", wanted))
+        # What it uses may stand after it.
+        later = self.one("lhs", "%x = var %y = var infer %y")
+        later = later.insert_before(0, self.unnamed(Op.ADD, Value(1), Value(0)))
+        operands = (Value(2), Value(1))
+        self.assertEqual(later.statements[0], Assignment("%0", None, Instruction(Op.ADD, operands)))
+        none: Any = None
+        self.assertRaisesRegex(TypeError, "^a statement is", later.insert_before, 0, none)
+        self.assertRaisesRegex(ValueError, "^a position -1 is", later.insert_before, -1, Pc(self.X, self.X))
+
+    def test_names(self) -> None:
+        item = self.one("lhs", "%2 = var %x = add %2, 1 infer %x")
+        item = item.insert_before(2, self.unnamed(Op.ADD, Value(1), Value(0)))
+        item = item.insert_before(0, Assignment("", None, Var()))
+        begun = "%0 = var %2 = var %x = add %2, 1 %3 = add %x, %2 "
+        self.assertEqual(item, self.one("lhs", begun + "infer %x"))
+        more = tuple(Assignment(name, None, Var()) for name in ("", "%4", "", "%007"))
+        found = Item((*item.statements, *more), item.ending).sort()
+        wanted = begun + "%5 = var %4 = var %6 = var %007 = var infer %x"
+        self.assertEqual(found, self.one("lhs", wanted))
+
+    def test_moved(self) -> None:
+        item = self.one("rep", "%a = var %b = var %c = var %d = var pc %a %b cand %c %d")
+        for which, place, wanted in (
+            (0, 2, "bacdp"), (0, 4, "bcdap"), (3, 0, "dabcp"), (3, 2, "abdcp"), (2, 9, "abdpc"),
+            (1, 1, "abcdp"), (1, 2, "abcdp"), (4, 5, "abcdp"), (4, 0, "pabcd"),
+        ):
+            found = item.move_before(which, Value(place))
+            where = {name: Value(wanted.index(name)) for name in "abcd"}
+            statements = tuple(
+                Pc(where["a"], where["b"]) if name == "p" else Assignment(f"%{name}", None, Var())
+                for name in wanted
+            )
+            self.assertEqual(found, Item(statements, souper.Cand(where["c"], where["d"])))
+        self.assertRaisesRegex(IndexError, "no statement 5", item.move_before, 5, 0)
+
+    def test_sorted(self) -> None:
+        item = self.one("lhs", "%x:i8 = var %y:i8 = mul %x, 3:i8 pc %y 0 %z:i8 = mul %y, 5:i8 infer %z")
+        statements = list(item.statements)
+        statements.append(self.unnamed(Op.SHL, Value(5), Constant(2, 8), width=8))
+        statements.append(self.unnamed(Op.FREEZE, self.X, width=8))
+        statements[1] = replace(statements[1], value=Instruction(Op.ADD, (Value(4), self.X)))
+        found = Item(tuple(statements), item.ending).sort()
+        wanted = """
+            %x:i8 = var %1:i8 = freeze %x %2:i8 = shl %1, 2:i8 %y:i8 = add %2, %x pc %y 0
+            %z:i8 = mul %y, 5:i8 infer %z"""
+        self.assertEqual(found, self.one("lhs", wanted))
+        self.assertEqual(found.sort(), found)
+
+    def test_a_cycle_stays(self) -> None:
+        def of(name: str, op: Op, *positions: int) -> Assignment:
+            return Assignment(name, None, Instruction(op, tuple(map(Value, positions))))
+
+        cycle = (of("%a", Op.FREEZE, 1), of("%b", Op.FREEZE, 0), of("%c", Op.ADD, 3, 2**64 - 1))
+        found = Item(cycle, Infer(Value(0))).sort()
+        wanted = (of("%b", Op.FREEZE, 1), of("%a", Op.FREEZE, 0), of("%c", Op.ADD, 3, 2**64 - 1))
+        self.assertEqual(found, Item(wanted, Infer(Value(1))))
+        self.assertRaises(souper.NotWellFormed, str, found)
+        # A path condition is no value, and stays.
+        used = (of("%a", Op.FREEZE, 2), Pc(Constant(1), Value(0)), Pc(Constant(2), Value(0)))
+        self.assertEqual(Item(used, Infer(Value(0))).sort(), Item(used, Infer(Value(0))))
+
+    def test_shuffled_items(self) -> None:
+        r = random.Random(1)
+        for _ in range(200):
+            b = Builder()
+            values = [b.var(), b.var()]
+            while len(values) < 30:
+                values.append(b.inst("select", *r.choices(values, k=3), width=r.randrange(1, 9)))
+            whole = b.replace(r.choice(values), r.choice(values))
+            mixed = whole
+            for _ in range(30):
+                mixed = mixed.move_before(r.randrange(30), r.randrange(31))
+            self.assertEqual(str(mixed.sort()), str(whole))
+
+    def test_large_items(self) -> None:
+        """A chain in which each statement is behind its user, and as many replacements."""
+        count = 40_000
+        chain = [self.unnamed(Op.FREEZE, Value(n + 1)) for n in range(count - 1)]
+        item = Item((*chain, Assignment("", None, Var())), Infer(Value(0)))
+        start = time.thread_time()
+        found = item.sort()
+        users = found.users()
+        replaced = item.replace_many({Value(n): Value(n + 1) for n in range(count - 1)})
+        seconds = time.thread_time() - start
+        self.assertEqual((found.ending, users.of(7)), (Infer(Value(count - 1)), (8,)))
+        self.assertEqual(found.assignment(Value(count - 1)).name, f"%{count - 1}")
+        self.assertEqual(len(replaced.users().of(count - 1)), count - 1)
+        self.assertEqual(replaced.ending, Infer(Value(count - 1)))
+        self.assertLess(seconds, 20)
+
+
+class Interpreter:
+    """The values of an item. What is not interpreted, inputs too, is a number of what it is of."""
+
+    def __init__(self, item: Item, seed: int) -> None:
+        self.seed = seed
+        self.values: list[int] = []
+        self.widths = [getattr(it, "width", None) or 64 for it in item.statements]
+        for statement in item.statements:
+            self.values.append(self.value(statement))
+        conditions = [it for it in item.statements if not isinstance(it, Assignment)]
+        self.seen = [self.of(operand, 64) for it in conditions for operand in it.operands]
+        match item.ending:
+            case Infer(value) | souper.Result(value):
+                self.seen.append(self.of(value, 64))
+            case souper.Replace(Infer(x), y) | souper.Cand(x, y):
+                self.seen += [self.of(x, 64), self.of(y, 64)]
+
+    def of(self, operand: souper.Operand, width: int) -> int:
+        if isinstance(operand, Value):
+            return self.values[operand.position]
+        return operand.value & ((1 << (operand.width or width)) - 1)
+
+    def number(self, *of: object) -> int:
+        return int.from_bytes(hashlib.sha256(repr((self.seed, of)).encode()).digest(), "little")
+
+    def value(self, statement: souper.Statement) -> int:
+        if not isinstance(statement, Assignment):
+            return 0
+        width = statement.width or 64
+        match statement.value:
+            case Instruction(op, operands):
+                found = self.result(op, [self.of(operand, width) for operand in operands], width)
+            case Phi(block, operands):
+                values = [self.of(operand, width) for operand in operands]
+                found = self.number("phi", self.values[block.position], values)
+            case rhs:
+                found = self.number(statement.name, rhs)
+        return found & ((1 << width) - 1)
+
+    def result(self, op: Op, operands: list[int], width: int) -> int:
+        match op, operands:
+            case Op.ADD, [x, y]:
+                return x + y
+            case Op.SUB, [x, y]:
+                return x - y
+            case Op.MUL, [x, y]:
+                return x * y
+            case Op.SHL, [x, y] if y < width:
+                return x << y
+            case Op.XOR, [x, y]:
+                return x ^ y
+        return self.number(op, operands)
+
+
+class StrengthReduction(unittest.TestCase):
+    """The example of a pass, by an interpreter on random inputs."""
+
+    def setUp(self) -> None:
+        spec = importlib.util.spec_from_file_location("strength", HERE / "examples/strength.py")
+        assert spec is not None and spec.loader is not None
+        self.strength = importlib.util.module_from_spec(spec)
+        spec.loader.exec_module(self.strength)
+
+    def random_item(self, r: random.Random) -> Item:
+        b = Builder()
+        width = r.choice((2, 3, 7, 8, 16, 33, 64))
+        values = [b.var("x", width), b.var("y", width)]
+        block = b.block(2)
+
+        def factor() -> Constant:
+            number = r.choice((0, 1, 2, 3, 4, 5, 6, 7, 8, 9, 10, -1, -2, 1 << (width - 1), r.getrandbits(width)))
+            return Constant(number % (1 << width), r.choice((None, width)))
+
+        def operand() -> souper.Operand:
+            return r.choice((r.choice(values), r.choice(values), factor()))
+
+        for _ in range(r.randrange(1, 12)):
+            match r.randrange(8):
+                case 0:
+                    b.pc(operand(), operand())
+                case 1:
+                    b.block_pc(block, r.randrange(2), operand(), operand())
+                case 2:
+                    values.append(b.phi(block, operand(), operand(), width=width))
+                case 3:
+                    op = r.choice((Op.ADD, Op.SUB, Op.XOR, Op.SHL, Op.UDIV, Op.MUL_NSW))
+                    values.append(b.inst(op, operand(), operand(), width=width))
+                case _:
+                    pair = [r.choice((r.choice(values), factor())), factor()]
+                    r.shuffle(pair)
+                    values.append(b.inst("mul", *pair, width=width))
+        match r.randrange(4):
+            case 0:
+                return b.infer(values[-1])
+            case 1:
+                return b.result(operand())
+            case 2:
+                return b.replace(values[-1], operand())
+        return b.cand(values[-1], operand())
+
+    def products(self, item: Item) -> Iterator[tuple[Assignment, souper.Operand]]:
+        for it in item.statements:
+            match it:
+                case Assignment(value=Instruction(Op.MUL, operands)):
+                    yield from ((it, operand) for operand in operands)
+
+    def test_values_stay(self) -> None:
+        r = random.Random(7)
+        counts = {"products": 0, "sums": 0}
+        for turn in range(1000):
+            item = self.random_item(r)
+            item = souper.canonical(item.kind, item)
+            found = self.strength.reduced(item)
+            # Of the items before and after, and of what the text after spells.
+            again = souper.canonical(found.kind, found)
+            for seed in range(4):
+                seen = Interpreter(item, seed).seen
+                self.assertEqual(Interpreter(found, seed).seen, seen, item)
+                self.assertEqual(Interpreter(again, seed).seen, seen, item)
+            for product, operand in self.products(again):
+                if isinstance(operand, Constant):
+                    bits = operand.value & ((1 << (product.width or 64)) - 1)
+                    self.assertNotIn(bits, (3, 5, 9, *(1 << n for n in range(64))), product)
+            counts["products"] += sum(1 for _ in self.products(item)) // 2
+            counts["sums"] += len(found.statements) - len(item.statements)
+        self.assertGreater(counts["products"], 1000)
+        self.assertGreater(counts["sums"], 150)
+
+    def run_program(self, kind: str, text: str) -> subprocess.CompletedProcess[str]:
+        library = {"SOUPER_LIB": LIBRARY._name, "PYTHONPATH": str(HERE), "PYTHONWARNINGS": "error"}
+        program = [sys.executable, str(HERE / "examples/strength.py"), kind]
+        return subprocess.run(
+            program, input=text, env={**os.environ, **library}, capture_output=True, text=True, check=False
+        )
+
+    def test_the_program(self) -> None:
+        found = self.run_program("lhs", "%x:i8 = var  %y:i8 = mul %x, 3:i8  infer %y")
+        text = "%x:i8 = var\n%1:i8 = shl %x, 1:i8\n%y:i8 = add %1, %x\ninfer %y\n\n"
+        self.assertEqual((found.returncode, found.stderr, found.stdout), (0, "", text))
+        for kind, text, said in (
+            ("lhs", "%x = var\ninfer %y", "line 2 is refused\n"),
+            ("none", "", "usage: strength.py lhs|rhs|rep <ITEMS\n"),
+        ):
+            found = self.run_program(kind, text)
+            self.assertEqual((found.returncode, found.stdout, found.stderr), (1, "", said))
 
 
 class IllFormed(unittest.TestCase):
@@ -1566,6 +2044,11 @@ class Types(unittest.TestCase):
         for item in reader:
             item.ending.value  # error: union-attr
             item.ending = item.ending  # error: misc
+            item.endings  # error: attr-defined
+            positions: tuple[int, ...] = item.users().of(souper.Value(0))
+            changed: souper.Item = item.replace_many({souper.Value(1): 5}).sort().move_before(1, 0)
+            changed.insert_before(0, "%x = var")  # error: arg-type
+            changed.replace_many({0: 1})  # error: dict-item
             if isinstance(item.ending, souper.Infer):
                 print(item.ending.value.position)
         b = souper.Builder()

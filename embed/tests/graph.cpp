@@ -120,6 +120,83 @@ void refusal(const Record &record, kind k, std::string_view text, std::string_vi
     expect(is_refused([&] { return souper::records(k, text, true); }, text, answer), "the exception of records", &record);
 }
 
+// Long texts, which are read and written part by part.
+
+struct many {
+    std::string text, answer;
+    std::vector<item> items;
+};
+
+many many_of(kind k, const Record *records, std::size_t count) {
+    many all;
+    while (all.text.size() < 200000) {
+        for (std::size_t i = 0; i < count; i++) {
+            if (records[i].status == SOUPER_DONE && static_cast<kind>(records[i].kind) == k) {
+                const auto text = view(records[i].text, records[i].text_length);
+                all.text.append(text).append("\n");
+                all.answer.append(view(records[i].answer, records[i].answer_length));
+                for (item &one : souper::read(k, text)) {
+                    all.items.push_back(std::move(one));
+                }
+            }
+        }
+    }
+    return all;
+}
+
+// What souper_format writes for a text that is refused.
+std::string refusal_of(kind k, const std::string &text) {
+    std::string out(2 * text.size(), '\0');
+    const SouperOutcome outcome = souper_format(static_cast<std::uint32_t>(k), oracle::bytes(text), text.size(),
+                                                reinterpret_cast<std::uint8_t *>(out.data()), out.size());
+    out.resize(outcome.status == SOUPER_REFUSED ? outcome.length : 0);
+    return out;
+}
+
+void in_parts(kind k, const Record *records, std::size_t count) {
+    const many all = many_of(k, records, count);
+    expect(souper::read(k, all.text) == all.items && souper::format(k, all.text) == all.answer, "a long text", nullptr);
+    expect(souper::write(k, all.items) == all.answer && souper::decode(k, souper::encode(all.items)) == all.items, "many items", nullptr);
+    const auto records_of = souper::records(k, all.text);
+    std::string texts;
+    for (const auto &one : records_of) {
+        texts += one.text + "\n";
+    }
+    expect(texts == all.answer && souper::key(k, all.text) == joined(records_of, false), "the records of a long text", nullptr);
+    for (const char *const end : {"infer", "%x = var", "%x = add 1"}) {
+        const std::string bad = all.text + end, shown = refusal_of(k, bad);
+        expect(is_refused([&] { return souper::read(k, bad); }, bad, shown), "read of a long text that is refused", nullptr);
+        expect(is_refused([&] { return souper::format(k, bad); }, bad, shown), "format of a long text that is refused", nullptr);
+        expect(is_refused([&] { return souper::records(k, bad); }, bad, shown), "records of a long text that is refused", nullptr);
+    }
+    souper::error e;
+    std::string out;
+    expect(!souper::try_format(k, all.text + "infer \xff", out, e) && e.what == souper::status::not_utf8, "a long text that is not UTF-8",
+           nullptr);
+    // The first item that has no text is told, be it one that has no code.
+    auto items = all.items;
+    const item ill_formed{{}, souper::infer{id{0}}}, uncoded{{}, souper::infer{id{0}, {souper::demanded_bits{"x"}}}};
+    const item last = k == kind::lhs ? ill_formed : item{{}, souper::cand{id{0}, id{0}}};
+    items.push_back(last);
+    items.push_back(uncoded);
+    const bool done = souper::try_write(k, items, out, e);
+    expect(!done && out.empty() && e.what == souper::status::not_well_formed && e.index == all.items.size() && e.why.has_value(),
+           "the index of an item among many", nullptr);
+    expect(e.offset == souper::encode(all.items).size(), "its offset", nullptr);
+}
+
+// One item that is longer than a part.
+void long_item() {
+    souper::builder b;
+    id last = b.var();
+    for (int count = 0; count < 10000; count++) {
+        last = b.inst(op::add, {last, constant{count, 32}}, {}, 32);
+    }
+    const std::vector<item> items(3, b.infer(last));
+    const std::string text = souper::write(kind::lhs, items);
+    expect(text.size() > 500000 && souper::read(kind::lhs, text) == items && souper::check(kind::lhs, text), "long items", nullptr);
+}
+
 // Items that are built, and their texts.
 
 void prints(const char *what, const item &i, const std::string &text) {
@@ -637,6 +714,10 @@ int main(int argc, char **argv) {
         (records[i].status == SOUPER_REFUSED ? refusal : acceptance)(records[i], static_cast<kind>(records[i].kind), text,
                                                                      answer);
     }
+    for (const kind k : {kind::lhs, kind::rhs, kind::rep}) {
+        in_parts(k, records, count);
+    }
+    long_item();
     built_lhs();
     built_blocks();
     built_names();

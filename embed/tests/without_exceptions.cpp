@@ -143,6 +143,23 @@ void streams() {
     expect(ended.try_next(one, e) && is_none(e) && !one, "the end", nullptr);
 }
 
+void passes() {
+    using pairs = std::vector<std::pair<souper::id, souper::operand>>;
+    souper::builder b;
+    const auto x = b.var("x"), y = b.inst(souper::op::freeze, {x}, "y"), z = b.inst(souper::op::freeze, {y}, "z");
+    item i = b.infer(z);
+    const item before = i;
+    error e;
+    expect(!souper::try_replace_uses(i, pairs{{y, z}, {z, y}}, e) && e.what == status::cycle && e.index == 1 && i == before
+               && e.message == "statement 1: the replacements of a value come back to it",
+           "replacements that have a cycle", nullptr);
+    expect(souper::try_replace_uses(i, pairs{{z, y}, {y, x}}, e) && is_none(e) && i.last == souper::last_lines(souper::infer{x}),
+           "values that are replaced at once", nullptr);
+    expect(souper::insert_before(i, x, souper::assignment{"%first"}).position == 0 && souper::sort(i).size() == 4
+               && souper::move_before(i, souper::id{0}, souper::id{4}).position == 3 && souper::users(i).of(x).size() == 2,
+           "statements that are inserted and moved", nullptr);
+}
+
 } // namespace
 
 int main() {
@@ -150,5 +167,6 @@ int main() {
     refused();
     other_errors();
     streams();
+    passes();
     return summary("C++ without exceptions");
 }

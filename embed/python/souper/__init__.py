@@ -70,8 +70,10 @@ from types import FunctionType
 from ._builder import Builder
 from ._calls import Record, canonical, check, find, format, key, keys, read, record_text, records
 from ._calls import same, write
-from ._code import decode, encode
+from ._code import encode
+from ._decoder import decode
 from ._errors import Flaw, FlawReason, Location, NoCode, NotUtf8, NotWellFormed, Refused
+from ._passes import Users
 from ._stream import Reader, stream
 from ._values import (
     Assignment,
@@ -153,6 +155,7 @@ __all__ = [
     "RootAttribute",
     "SignBits",
     "Statement",
+    "Users",
     "Value",
     "Var",
     "canonical",

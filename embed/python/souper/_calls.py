@@ -8,7 +8,8 @@ from typing import Any, NamedTuple
 
 from . import _library
 from ._checks import check_type, documented
-from ._code import decode, encode
+from ._code import encode
+from ._decoder import decode
 from ._errors import Flaw, FlawReason, Location, NotWellFormed, Refused, four_lines
 from ._library import DIFFERENT, DONE, NOT_UTF8, NOT_WELL_FORMED, OUT_OF_MEMORY, REFUSED, SHORT
 from ._library import KEY, NUL, NUMBERS, RENAME, Outcome
@@ -98,7 +99,8 @@ def read(kind: Kind | str, text: str | bytes) -> list[Item]:
          |       ^
     """
     kind, data = Kind(kind), _utf8(text)
-    room = 3 * len(data) + 256
+    # A code is rarely more than four times its text.
+    room = 4 * len(data) + len(data) // 2 + 256
     outcome, out = _written(_library.LIBRARY.souper_read, (NUMBERS[kind],), data, room)
     if outcome.status != DONE:
         raise _failure(kind, outcome, data, out)

@@ -10,7 +10,7 @@ from collections.abc import Callable, Iterable
 from typing import TypeVar
 
 from ._checks import check_int, check_range, check_type
-from ._errors import NoCode, place
+from ._errors import place
 from ._values import (
     Assignment,
     Attribute,
@@ -46,9 +46,11 @@ from ._values import (
     Statement,
     Value,
     Var,
+    kind_of_code,
+    known_code,
 )
 
-_OPS = tuple(Op)
+OPS = tuple(Op)
 # The attributes without contents, from number 1.
 FLAGS: tuple[Attribute, ...] = (
     PowerOfTwo(),
@@ -57,50 +59,38 @@ FLAGS: tuple[Attribute, ...] = (
     NonZero(),
     HasExternalUses(),
 )
-_VAR = Var()
 KNOWN_BITS = "01x"
 DEMANDED_BITS = "01"
 
 _T = TypeVar("_T")
 
 
-class _Damaged(Exception):
+class Damaged(Exception):
     """The bytes do not begin with a code."""
 
-
-# Values and constants that many items have. They are immutable, so one object serves all.
-_VALUES = tuple(Value(position) for position in range(256))
-_CONSTANTS: dict[bytes, Constant] = {}
-_KEPT_CONSTANTS = 1024
 
 _U64 = struct.Struct("<Q").unpack_from
 _U32 = struct.Struct("<I").unpack_from
 _U16 = struct.Struct("<H").unpack_from
-# A frozen value is made by its fields' descriptors: a call of its class takes four times as long.
-_new = object.__new__
-_set_name, _set_width, _set_value, _set_attributes = (
-    Assignment.__dict__[name].__set__ for name in ("name", "width", "value", "attributes")
-)
-_set_op, _set_operands = (Instruction.__dict__[name].__set__ for name in ("op", "operands"))
 
 
-class _Reader:
-    """The rest of a code.
+class CodeReader:
+    """A code from a byte on.
 
     Each length is compared with the rest before bytes are taken. Past the end, and at a byte that no
-    code has there, a method raises `_Damaged`, or what Python raises there.
+    code has there, a method raises `Damaged`, or what Python raises there.
     """
 
     __slots__ = ("code", "at")
 
-    def __init__(self, code: bytes) -> None:
+    def __init__(self, code: bytes, at: int) -> None:
         self.code = code
-        self.at = 0
+        self.at = at
 
     def take(self, length: int) -> bytes:
         start, end = self.at, self.at + length
         if end > len(self.code):
-            raise _Damaged
+            raise Damaged
         self.at = end
         return self.code[start:end]
 
@@ -131,7 +121,7 @@ class _Reader:
             self.at = at + 1
             return None
         if tag != 1:
-            raise _Damaged
+            raise Damaged
         self.at = at + 3
         bits: int = _U16(self.code, at + 1)[0]
         return bits
@@ -140,7 +130,7 @@ class _Reader:
         # Each element of a list has one byte or more.
         length = self.size()
         if length > len(self.code) - self.at:
-            raise _Damaged
+            raise Damaged
         return length
 
     def sequence(self, element: Callable[[], _T]) -> tuple[_T, ...]:
@@ -149,65 +139,49 @@ class _Reader:
 
     def bits(self, alphabet: str) -> str:
         bits = self.take(self.size())
-        if any(bit >= len(alphabet) for bit in bits):
-            raise _Damaged
-        return "".join(alphabet[bit] for bit in bits)
+        if bits.translate(None, bytes(range(len(alphabet)))):
+            raise Damaged
+        return bits.translate(alphabet.encode().ljust(256)).decode()
 
     def value(self) -> Value:
-        position = self.size()
-        return _VALUES[position] if position < 256 else Value(position)
+        return Value(self.size())
 
     def operand(self) -> Operand:
-        at = self.at
-        tag = self.code[at]
-        if tag == 0:
-            self.at = at + 9
-            position = _U64(self.code, at + 1)[0]
-            return _VALUES[position] if position < 256 else Value(position)
-        if tag != 1:
-            raise _Damaged
-        self.at = at + 17
-        width = self.width()
-        code = self.code[at : self.at]
-        constant = _CONSTANTS.get(code)
-        if constant is None:
-            constant = Constant(int.from_bytes(code[1:17], "little", signed=True), width)
-            if len(_CONSTANTS) < _KEPT_CONSTANTS:
-                _CONSTANTS[code] = constant
-        return constant
+        match self.byte():
+            case 0:
+                return self.value()
+            case 1:
+                return Constant(self.number(), self.width())
+        raise Damaged
+
+    def operands(self) -> tuple[Operand, ...]:
+        return self.sequence(self.operand)
 
     def instruction(self) -> Instruction:
-        at = self.at
-        number = self.code[at]
-        if number >= len(_OPS):
-            raise _Damaged
-        op = _OPS[number]
-        arity = op.arity
-        if _U64(self.code, at + 1)[0] != arity:
-            raise _Damaged
-        self.at = at + 9
-        instruction = _new(Instruction)
-        _set_op(instruction, op)
-        operand = self.operand
-        if arity == 2:
-            _set_operands(instruction, (operand(), operand()))
-        else:
-            _set_operands(instruction, tuple([operand() for _ in range(arity)]))
-        return instruction
+        number = self.byte()
+        if number >= len(OPS):
+            raise Damaged
+        op = OPS[number]
+        operands = self.operands()
+        if len(operands) != op.arity:
+            raise Damaged
+        return Instruction(op, operands)
 
-    def rhs(self, tag: int) -> Rhs:
-        match tag:
+    def rhs(self) -> Rhs:
+        match self.byte():
             case 0:
-                return _VAR
+                return Var()
             case 1:
                 return Block(self.u32())
             case 2:
-                return Phi(self.value(), self.sequence(self.operand))
+                return Phi(self.value(), self.operands())
             case 3:
                 return ReservedInst()
             case 4:
                 return ReservedConst()
-        raise _Damaged
+            case 5:
+                return self.instruction()
+        raise Damaged
 
     def attribute(self) -> Attribute:
         match self.byte():
@@ -219,7 +193,7 @@ class _Reader:
                 return Range(self.number(), self.number())
             case flag if flag <= len(FLAGS):
                 return FLAGS[flag - 1]
-        raise _Damaged
+        raise Damaged
 
     def root_attribute(self) -> RootAttribute:
         match self.byte():
@@ -227,36 +201,21 @@ class _Reader:
                 return DemandedBits(self.bits(DEMANDED_BITS))
             case 1:
                 return HarvestedFromUse()
-        raise _Damaged
+        raise Damaged
 
-    def assignment(self) -> Assignment:
-        # The name, a list of bytes. No call for it: this is the commonest part of a code.
-        code, start = self.code, self.at + 8
-        end = start + _U64(code, self.at)[0]
-        if end > len(code):
-            raise _Damaged
-        assignment = _new(Assignment)
-        _set_name(assignment, code[start:end].decode())
-        self.at = end
-        _set_width(assignment, self.width())
-        at = self.at
-        self.at = at + 1
-        _set_value(assignment, self.instruction() if code[at] == 5 else self.rhs(code[at]))
-        _set_attributes(assignment, self.sequence(self.attribute))
-        return assignment
+    def attributes(self) -> tuple[Attribute, ...]:
+        return self.sequence(self.attribute)
 
     def statement(self) -> Statement:
-        at = self.at
-        tag = self.code[at]
-        self.at = at + 1
-        if tag == 0:
-            return self.assignment()
-        match tag:
+        match self.byte():
+            case 0:
+                name = self.take(self.size()).decode()
+                return Assignment(name, self.width(), self.rhs(), self.attributes())
             case 1:
                 return Pc(self.operand(), self.operand())
             case 2:
                 return BlockPc(self.value(), self.u32(), self.operand(), self.operand())
-        raise _Damaged
+        raise Damaged
 
     def infer(self) -> Infer:
         return Infer(self.value(), self.sequence(self.root_attribute))
@@ -271,42 +230,7 @@ class _Reader:
                 return Replace(self.infer(), self.operand())
             case 3:
                 return Cand(self.operand(), self.operand(), self.sequence(self.root_attribute))
-        raise _Damaged
-
-    def item(self, kind: Kind) -> Item:
-        item = Item(self.sequence(self.statement), self.ending())
-        if item.kind is not kind or self.at > len(self.code):
-            raise _Damaged
-        return item
-
-
-def decode(kind: Kind | str, code: bytes | bytearray | memoryview) -> list[Item]:
-    """The items whose code the bytes are, as `encode` and ``souper_read`` of C write it.
-
-    `NoCode` if the bytes are the code of no list of items of the kind. A length in the code that is
-    larger than the code costs neither time nor memory.
-
-    >>> items = read("lhs", "%x = var infer %x")
-    >>> decode("lhs", encode("lhs", items)) == items
-    True
-    >>> decode("lhs", bytes(8))
-    Traceback (most recent call last):
-        ...
-    souper.NoCode: no code of an item at byte 0, after 0 items
-    """
-    kind = Kind(kind)
-    check_type("code", code, "bytes", bytes, bytearray, memoryview)
-    reader = _Reader(bytes(code))
-    items: list[Item] = []
-    while reader.at < len(reader.code):
-        start = reader.at
-        try:
-            items.append(reader.item(kind))
-        except UnicodeDecodeError as error:
-            raise NoCode(len(items), start) from error
-        except (_Damaged, IndexError, struct.error):
-            raise NoCode(len(items), start) from None
-    return items
+        raise Damaged
 
 
 class _Writer:
@@ -538,6 +462,10 @@ def encode(kind: Kind | str, items: Iterable[Item]) -> bytes:
     check_type("items", items, "an iterable of items", Iterable)
     writer = _Writer()
     for index, item in enumerate(items):
+        known = known_code(item)
+        if known is not None and kind_of_code(*known) is kind:
+            writer.code += known[0]
+            continue
         check_type(f"items[{index}]", item, "an Item", Item)
         try:
             writer.item(kind, item)

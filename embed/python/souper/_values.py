@@ -7,11 +7,14 @@ None if the text has no type. What `help` shows of the fields is in `documented`
 from __future__ import annotations
 
 import enum
-from collections.abc import Callable, Iterable
+from collections.abc import Callable, Iterable, Mapping
 from dataclasses import dataclass, replace
-from typing import Any, TypeAlias
+from typing import TYPE_CHECKING, Any, ClassVar, TypeAlias
 
 from ._checks import check_int, check_range, check_type, documented
+
+if TYPE_CHECKING:
+    from ._passes import Users
 
 
 class Kind(enum.Enum):
@@ -164,18 +167,21 @@ def _values_of(operands: Iterable[Operand]) -> tuple[Value, ...]:
     return tuple(operand for operand in operands if isinstance(operand, Value))
 
 
+def plain_operand(what: str, operand: Operand | int) -> Operand:
+    """The operand as an item has it, also if a builder returned it."""
+    match operand:
+        case int():
+            return Constant(operand)
+        case Value(position):
+            return Value(position)
+    check_type(what, operand, "a Value, a Constant or an int", Constant)
+    return operand
+
+
 def _replacing(of: Value, by: Operand | int) -> Callable[[Operand], Operand]:
     """The function that gives `by` for the value `of`, and any other operand for itself."""
     check_type("of", of, "a Value", Value)
-    match by:
-        case int():
-            new: Operand = Constant(by)
-        case Value(position):
-            # As an item has it, also if a builder returned it.
-            new = Value(position)
-        case _:
-            check_type("by", by, "a Value, a Constant or an int", Constant)
-            new = by
+    new = plain_operand("by", by)
     return lambda operand: new if operand == of else operand
 
 
@@ -315,12 +321,10 @@ class Assignment:
     @property
     def operands(self) -> tuple[Operand, ...]:
         """The operands of the right side, from left to right. A phi's block is its first."""
-        match self.value:
-            case Instruction(_, operands):
-                return operands
-            case Phi(block, values):
-                return (block, *values)
-        return ()
+        value = self.value
+        if isinstance(value, Instruction):
+            return value.operands
+        return (value.block, *value.values) if isinstance(value, Phi) else ()
 
     @property
     def uses(self) -> tuple[Value, ...]:
@@ -329,12 +333,16 @@ class Assignment:
 
     def map_operands(self, f: Callable[[Operand], Operand]) -> Assignment:
         """The assignment with ``f(operand)`` for each operand. A phi's block stays."""
-        match self.value:
-            case Instruction(op, operands):
-                return replace(self, value=Instruction(op, tuple(map(f, operands))))
-            case Phi(block, values):
-                return replace(self, value=Phi(block, tuple(map(f, values))))
-        return self
+        value = self.value
+        if not isinstance(value, Instruction | Phi):
+            return self
+        old = value.operands if isinstance(value, Instruction) else value.values
+        new = tuple(map(f, old))
+        if new == old:
+            return self
+        if isinstance(value, Instruction):
+            return Assignment(self.name, self.width, Instruction(value.op, new), self.attributes)
+        return Assignment(self.name, self.width, Phi(value.block, new), self.attributes)
 
     def replace_uses(self, of: Value, by: Operand | int) -> Assignment:
         """The assignment with `by` for each operand that is the value `of`. A phi's block stays."""
@@ -458,7 +466,7 @@ def _mapped_infer(infer: Infer, f: Callable[[Operand], Operand]) -> Infer:
     return infer
 
 
-def _mapped_ending(ending: Ending, f: Callable[[Operand], Operand]) -> Ending:
+def mapped_ending(ending: Ending, f: Callable[[Operand], Operand]) -> Ending:
     match ending:
         case Infer():
             return _mapped_infer(ending, f)
@@ -470,10 +478,47 @@ def _mapped_ending(ending: Ending, f: Callable[[Operand], Operand]) -> Ending:
             return replace(ending, lhs=f(lhs), rhs=f(rhs))
 
 
+class Coded:
+    """What a decoded item has beside its fields. Without values it makes them of its code."""
+
+    __slots__ = ("_code", "_end")
+
+    _code: bytes
+    """The code of the item."""
+    _end: int
+    """Where the code of the statements ends; its complement, if the values were made before."""
+    _values_of_code: ClassVar[Callable[[Any], tuple[Any, Any] | None]]
+    """It is in `_decoder`."""
+
+
+_get_code, _get_end = (Coded.__dict__[name].__get__ for name in ("_code", "_end"))
+_FIELDS = ("statements", "ending")
+# By the byte that the code of the last lines begins with.
+_KINDS = (Kind.LHS, Kind.RHS, Kind.REP, Kind.REP)
+
+
+def known_code(item: object) -> tuple[bytes, int] | None:
+    """The code of an item that was decoded, and where the code of its statements ends."""
+    try:
+        code, end = _get_code(item), _get_end(item)
+    except (AttributeError, TypeError):
+        return None
+    return code, end if end >= 0 else ~end
+
+
+def kind_of_code(code: bytes, end: int) -> Kind:
+    """The kind of an item, by its code and where the code of its statements ends."""
+    return _KINDS[code[end]]
+
+
 @documented(statements="In the order of the text.", ending="The last lines.")
 @dataclass(frozen=True, slots=True)
-class Item:
+class Item(Coded):
     """A left-hand side, a right-hand side or a replacement.
+
+    An item that was read makes its values when they are first asked for. Those of up to 64
+    statements are dropped once, when 64 other items have made theirs, and are then made again and
+    kept: a walk over many items takes little memory.
 
     `str` of it is the canonical text, without the newline that `write` writes after it; if it has
     none, `NotWellFormed` or another error of `write`. Jupyter shows its graph, if ``dot`` is there.
@@ -481,6 +526,15 @@ class Item:
 
     statements: tuple[Statement, ...]
     ending: Ending
+
+    if not TYPE_CHECKING:
+
+        def __getattr__(self, name: str) -> Any:
+            values = Coded._values_of_code(self) if name in _FIELDS else None
+            if values is None:
+                message = f"'Item' object has no attribute {name!r}"
+                raise AttributeError(message, name=name, obj=self)
+            return values[name == "ending"]
 
     def __str__(self) -> str:
         from ._calls import write
@@ -529,6 +583,9 @@ class Item:
     @property
     def kind(self) -> Kind:
         """The kind of an item with these last lines."""
+        known = known_code(self)
+        if known is not None:
+            return kind_of_code(*known)
         match self.ending:
             case Infer():
                 return Kind.LHS
@@ -547,6 +604,22 @@ class Item:
         if not isinstance(statement, Assignment):
             raise ValueError(f"statement {value.position} is not an assignment")
         return statement
+
+    def users(self) -> Users:
+        """What uses each statement, made once, in time linear in the item."""
+        from ._passes import Users
+
+        return Users(self)
+
+    def map_operands(self, f: Callable[[Operand], Operand]) -> Item:
+        """The item with ``f(operand)`` for each operand, also in the last lines.
+
+        ``infer`` has a value, and keeps it where `f` returns a constant. Blocks stay.
+        """
+        statements = tuple([statement.map_operands(f) for statement in self.statements])
+        ending = mapped_ending(self.ending, f)
+        is_same = statements == self.statements and ending == self.ending
+        return self if is_same else Item(statements, ending)
 
     def replace_uses(self, of: Value, by: Operand | int) -> Item:
         """The item with `by` for each operand that is the value `of`, also in the last lines.
@@ -567,6 +640,74 @@ class Item:
         infer %3
         <BLANKLINE>
         """
-        f = _replacing(of, by)
-        statements = tuple(statement.map_operands(f) for statement in self.statements)
-        return Item(statements, _mapped_ending(self.ending, f))
+        return self.map_operands(_replacing(of, by))
+
+    def replace_many(self, pairs: Mapping[Value, Operand | int]) -> Item:
+        """The item with another operand for each of many values, as by `replace_uses`, in one walk.
+
+        Chains are followed: of a by b and b by 5, both become 5. `ValueError` if the replacements
+        of a value come back to it, as of a by b and b by a. Of a value by itself nothing changes.
+
+        >>> text = "%x = var  %1 = add %x, 0  %2 = add %1, 0  %3 = mul %2, %1  infer %3"
+        >>> [item] = read("lhs", text)
+        >>> print(item.replace_many({Value(2): Value(1), Value(1): Value(0)}), end="")
+        %x = var
+        %3 = mul %x, %x
+        infer %3
+        """
+        from ._passes import with_replaced
+
+        return with_replaced(self, pairs)
+
+    def sort(self) -> Item:
+        """The item with each assignment before the statements that use it.
+
+        So a pass may append statements, and sort at the end, in linear time. A statement that
+        stands too late comes right before the first that uses it, and the order of the others
+        stays. Uses are of the same statements, at their new positions. An assignment whose name is
+        empty gets one as in a `Builder`. Where statements use one another in a cycle, a use before
+        its definition remains.
+
+        >>> [item] = read("lhs", "%x = var  %y = mul %x, 3  infer %y")
+        >>> x, y = item.statements
+        >>> shift = Assignment("", None, Instruction(Op.SHL, (Value(0), Constant(1))))
+        >>> total = Assignment("%y", None, Instruction(Op.ADD, (Value(2), Value(0))))
+        >>> print(Item((x, total, shift), item.ending).sort(), end="")
+        %x = var
+        %1 = shl %x, 1
+        %y = add %1, %x
+        infer %y
+        """
+        from ._passes import sorted_item
+
+        return sorted_item(self)
+
+    def insert_before(self, place: Value | int, statement: Statement) -> Item:
+        """The item with a statement more, before the one at a place, or at the end.
+
+        It has the position of the place, and the statements from there on have the next ones. Its
+        operands are values of this item, and uses are of the same statements, at their new
+        positions. An assignment whose name is empty gets one as in a `Builder`. It takes time
+        linear in the item: many statements are appended, and then `sort` puts them before their
+        uses.
+
+        >>> [item] = read("lhs", "%x = var  %y = freeze %x  infer %y")
+        >>> shift = Assignment("", None, Instruction(Op.SHL, (Value(0), Constant(1))))
+        >>> item.insert_before(Value(1), shift).statements[2].value.operands
+        (Value(position=0),)
+        >>> item.insert_before(Value(1), shift).ending
+        Infer(value=Value(position=2), attributes=())
+        """
+        from ._passes import inserted_before
+
+        return inserted_before(self, place, statement)
+
+    def move_before(self, which: Value | int, place: Value | int) -> Item:
+        """The item with one of its statements before the one at a place, or at the end.
+
+        Uses are of the same statements, at their new positions. `IndexError` if the item has no
+        statement `which`.
+        """
+        from ._passes import moved_before
+
+        return moved_before(self, which, place)

@@ -101,9 +101,14 @@ impl<T> Arena<T> {
         Some((self.id(index), self.values.get(index)?))
     }
 
-    // The index of an id, if the id is of this arena.
-    fn own(&self, id: Id<T>) -> Option<usize> {
+    // The index of an id, be it past the end, if the id is of this arena.
+    pub(crate) fn own(&self, id: Id<T>) -> Option<usize> {
         (id.arena == self.number).then_some(id.index)
+    }
+
+    // The values, which may be put in another order.
+    pub(crate) fn values_mut(&mut self) -> &mut Vec<T> {
+        &mut self.values
     }
 }
 
@@ -244,6 +249,16 @@ impl<T> Id<T> {
     /// The place of the value in its arena, from 0.
     pub fn index(self) -> usize {
         self.index
+    }
+
+    // The id of another index in the same arena, be it past the end.
+    pub(crate) fn with_index(self, index: usize) -> Self {
+        Id::new(index, self.arena)
+    }
+
+    // Whether it is an id of the same arena as the other.
+    pub(crate) fn is_beside(self, other: Self) -> bool {
+        self.arena == other.arena
     }
 
     fn parts(self) -> (u32, usize) {

@@ -15,9 +15,12 @@ mod attributes;
 mod builders;
 mod instruction;
 mod items;
+mod last_lines;
 mod operands;
+mod order;
 mod replacing;
 mod statements;
+mod users;
 mod uses;
 
 pub use crate::arena::{Arena, Id};
@@ -25,8 +28,13 @@ pub use attributes::{Attribute, RootAttribute};
 pub use builders::{LeftHandSideBuilder, ReplacementBuilder, RightHandSideBuilder};
 pub use instruction::Instruction;
 pub use items::{Cand, Infer, LeftHandSide, Replacement, RightHandSide};
+pub(crate) use last_lines::LastLines;
 pub use operands::{BlockId, Constant, Operand, Type, ValueId};
+pub(crate) use order::{insert_before, move_before, sort};
+pub use replacing::Cycle;
+pub(crate) use replacing::{replace_many, replace_uses};
 pub use statements::{Assignment, AssignmentRhs, Block, BlockPc, Pc, Phi, Statement, Var};
+pub use users::Users;
 pub use uses::Use;
 
 // The assignment of a value.

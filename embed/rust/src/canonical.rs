@@ -262,7 +262,7 @@ impl From<Refusal> for Error {
 ///
 /// [`Error::Refused`] if the text spells no list of items of the kind, with the place; [`Error::OutOfMemory`].
 pub fn format(kind: Kind, text: &str) -> Result<String, Error> {
-    written(Call::Format, kind, text, room(text)).map(string)
+    written(Call::Format, kind, text, 2).map(string)
 }
 
 /// Whether the text is canonical: [`format()`] returns the text itself.
@@ -303,8 +303,14 @@ pub fn same(kind: Kind, a: &str, b: &str) -> Result<bool, Error> {
 pub fn key(kind: Kind, text: &str, record: Record) -> Result<String, Error> {
     let flags =
         u32::from(record.key) | u32::from(record.renamed) << 1 | u32::from(record.null) << 2;
-    let room = room(text) + if record.key { 2 * text.len() } else { 0 };
-    written(Call::Key(flags), kind, text, room).map(string)
+    // The record of `result 1` has nine times its length.
+    written(
+        Call::Key(flags),
+        kind,
+        text,
+        if record.key { 10 } else { 2 },
+    )
+    .map(string)
 }
 
 /// For each left-hand side of `queries`, in order, the canonical text of each of its answers in `store`, without the newline that
@@ -328,7 +334,9 @@ pub fn key(kind: Kind, text: &str, record: Record) -> Result<String, Error> {
 /// As for [`format()`]: about `store`, whose [`Refusal::input`] is 0, or else about `queries`.
 pub fn find(store: &str, queries: &str) -> Result<Vec<Vec<String>>, Error> {
     let mut out = Vec::new();
-    let (call, room) = (Call::Find(store), 2 * queries.len() + 256);
+    // A second call reads the store again, and room that is not written costs nothing.
+    let room = 4 * queries.len() + 2 * store.len() + SHOWN;
+    let call = Call::Find(store);
     let outcome = raw::call(call, Kind::Lhs, queries.as_bytes(), room, &mut out);
     match (outcome.status, outcome.input) {
         (raw::DONE, _) => Ok(groups(&string(out))),
@@ -349,20 +357,73 @@ fn groups(all: &str) -> Vec<Vec<String>> {
     all.split_terminator('\0').map(texts).collect()
 }
 
+// The bytes of a text that are read at once: so many that calls are few, and so few that what is written stays in the processor's cache.
+const PART: usize = 1 << 15;
+
+// What an error shows is mostly shorter.
+const SHOWN: usize = 4096;
+
+// The first items of a text: up to the last cut between two in the first bytes, `len` of them or, if they have none, more.
+fn first_part(kind: Kind, text: &str, mut len: usize) -> &str {
+    while len < text.len() {
+        let cut = raw::last_cut(kind, &text.as_bytes()[..len]);
+        match text.get(..cut.length) {
+            Some(part) if cut.status == raw::DONE && !part.is_empty() => return part,
+            _ => len = len.saturating_mul(4),
+        }
+    }
+    text
+}
+
+// Gives `take` what the call writes for each part of the text, which is cut between items, with what came of the parts before. The first
+// guess is so many times the length of a part.
+pub(crate) fn in_parts<T: Default, E: From<Error>>(
+    call: Call<'_>,
+    kind: Kind,
+    text: &str,
+    times: usize,
+    take: impl Fn(&mut T, &[u8]) -> Result<(), E>,
+) -> Result<T, E> {
+    raw::with_buffer(|written| {
+        let (mut all, mut rest, mut len, mut times) = (T::default(), text, PART, times);
+        loop {
+            let part = first_part(kind, rest, len);
+            let room = times * part.len() + SHOWN;
+            let outcome = raw::call(call, kind, part.as_bytes(), room, written);
+            match outcome.status {
+                raw::DONE => take(&mut all, written)?,
+                // The place of an error is one in the whole text.
+                raw::REFUSED if part.len() < text.len() => {
+                    (all, rest, len, times) = (T::default(), text, text.len(), 0);
+                    continue;
+                }
+                raw::REFUSED => {
+                    let shown = string(written.clone());
+                    return Err(refused(kind, text, &outcome, shown).into());
+                }
+                status => return Err(Error::of_status(status).into()),
+            }
+            rest = &rest[part.len()..];
+            if rest.is_empty() {
+                return Ok(all);
+            }
+        }
+    })
+}
+
 // The bytes that the call writes for a text.
 pub(crate) fn written(
     call: Call<'_>,
     kind: Kind,
     text: &str,
-    room: usize,
+    times: usize,
 ) -> Result<Vec<u8>, Error> {
-    let mut out = Vec::new();
-    let outcome = raw::call(call, kind, text.as_bytes(), room, &mut out);
-    match outcome.status {
-        raw::DONE => Ok(out),
-        raw::REFUSED => Err(refused(kind, text, &outcome, string(out))),
-        status => Err(Error::of_status(status)),
-    }
+    in_parts(call, kind, text, times, |all: &mut Vec<u8>, written| {
+        all.try_reserve(written.len())
+            .map_err(|_| Error::OutOfMemory)?;
+        all.extend_from_slice(written);
+        Ok(())
+    })
 }
 
 // The answer to a question; if it has none, the error, which is about that text.
@@ -380,11 +441,6 @@ fn answer(kind: Kind, outcome: &Outcome, text: &str) -> Result<bool, Error> {
         }
         status => Err(Error::of_status(status)),
     }
-}
-
-// The first guess at the length of a canonical text.
-fn room(text: &str) -> usize {
-    text.len() + text.len() / 4 + 256
 }
 
 fn string(bytes: Vec<u8>) -> String {

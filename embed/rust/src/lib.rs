@@ -79,9 +79,10 @@
 //! Besides the original, there are [`canonical`] (texts without values), [`code`] (the byte code of items), [`stream`] (items of a
 //! stream that comes in parts), [`ast::Constant::from_bits`], and [`refusal`](parse::ParseError::refusal), [`location`](parse::ParseError::location) and
 //! [`is_at_end`](parse::ParseError::is_at_end) of [`parse::ParseError`]. Passes have [`ast::Statement::uses`], [`map_operands`](ast::Statement::map_operands),
-//! [`replace_uses`](code::Item::replace_uses) of statements and items, [`operands`](ast::Statement::operands),
-//! [`word`](ast::Instruction::word) of instructions, [`ast::RightHandSideBuilder`], [`finish_cand`](ast::ReplacementBuilder::finish_cand),
-//! and builders that continue after an item. The values have `==` and `Hash`, and an item is `FromStr`: `text.parse::<LeftHandSide>()`.
+//! [`replace_uses`](code::Item::replace_uses) of statements and items, [`replace_many`](code::Item::replace_many),
+//! [`users`](code::Item::users), [`sort`](code::Item::sort), [`insert_before`](code::Item::insert_before) and
+//! [`move_before`](code::Item::move_before) of items, [`operands`](ast::Statement::operands), [`word`](ast::Instruction::word) of instructions,
+//! [`ast::RightHandSideBuilder`], [`finish_cand`](ast::ReplacementBuilder::finish_cand), and builders that continue after an item. The values have `==` and `Hash`, and an item is `FromStr`: `text.parse::<LeftHandSide>()`.
 //!
 //! Enums that a newer library may extend are `non_exhaustive`. The types of the original stay exhaustive, as they are there. Each error
 //! has the error that it wraps as its `source`; its own message has the text of that one.

@@ -214,13 +214,12 @@ pub fn parse_right_hand_sides_file(path: &Path) -> Result<Vec<RightHandSide>> {
 }
 
 fn items<T: Item>(source: &str, filename: Option<&Path>) -> Result<Vec<T>> {
-    let code = code::read(T::KIND, source).map_err(|error| match error {
-        canonical::Error::Refused(refusal) => {
-            Reason::Refused(refusal, filename.map(Path::to_path_buf)).into()
+    code::read_items(source).map_err(|mut error: ParseError| {
+        if let Reason::Refused(_, file) = &mut *error.reason {
+            *file = filename.map(Path::to_path_buf);
         }
-        error => ParseError::from(error),
-    })?;
-    Ok(code::decode(&code)?)
+        error
+    })
 }
 
 fn one<T: Item>(text: &str) -> Result<T> {

@@ -1,6 +1,7 @@
 //! The calls of `souper.h`, and all unsafe code. The header's demands on a caller hold here for every argument.
 #![allow(unsafe_code)]
 use crate::canonical::Kind;
+use std::cell::Cell;
 
 #[cfg(feature = "heap")]
 mod heap;
@@ -84,8 +85,26 @@ pub(crate) enum Call<'a> {
     Find(&'a str),
 }
 
-/// The outcome of the call, whose output replaces the content of `out`. `room` is the first guess at the length, in bytes; if it
-/// is too short, a second call has the right length.
+// A buffer that has more room than this, in bytes, is not kept.
+const KEPT: usize = 1 << 16;
+
+thread_local! {
+    static BUFFER: Cell<Vec<u8>> = const { Cell::new(Vec::new()) };
+}
+
+/// Gives the function a buffer of this thread, which keeps its room from call to call. It may have anything in it.
+pub(crate) fn with_buffer<R>(work: impl FnOnce(&mut Vec<u8>) -> R) -> R {
+    // A call within the function finds no buffer, and makes one.
+    let mut buffer = BUFFER.try_with(Cell::take).unwrap_or_default();
+    let done = work(&mut buffer);
+    if buffer.capacity() <= KEPT {
+        let _ = BUFFER.try_with(|kept| kept.set(buffer));
+    }
+    done
+}
+
+/// The outcome of the call, whose output replaces the content of `out`. `room` is the first guess at the length, in bytes, which
+/// ordinary input does not exceed; if it is too short, a second call has the right length, and does the work again.
 pub(crate) fn call(
     call: Call<'_>,
     kind: Kind,

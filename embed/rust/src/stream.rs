@@ -370,8 +370,7 @@ impl<T: Item> Reader<T> {
     fn read_text(&mut self, len: usize) -> Result<(), Error> {
         let bytes = &self.buffer[self.start..][..len];
         let text = str::from_utf8(bytes).map_err(|_| self.not_utf8(bytes))?;
-        let code = code::read(T::KIND, text)?;
-        let items = code::decode(&code)?;
+        let items = code::read_items::<_, Error>(text)?;
         self.pass(len, items);
         Ok(())
     }

@@ -28,7 +28,7 @@ pub struct ReplacementBuilder {
 
 // The names that are numbers.
 #[derive(Clone, Debug, Default)]
-struct Numbers {
+pub(super) struct Numbers {
     // Those that were given.
     given: BTreeSet<usize>,
     // The least that was not tried yet.
@@ -36,7 +36,7 @@ struct Numbers {
 }
 
 impl Numbers {
-    fn of(statements: &Arena<Statement>) -> Self {
+    pub(super) fn of(statements: &Arena<Statement>) -> Self {
         let mut names = Numbers::default();
         for (_, statement) in statements {
             if let Statement::Assignment(Assignment { name, .. }) = statement {
@@ -55,7 +55,7 @@ impl Numbers {
     }
 
     // `%` and this number, or the next that was not given.
-    fn make(&mut self, position: usize) -> String {
+    pub(super) fn make(&mut self, position: usize) -> String {
         self.next = self.next.max(position);
         while self.given.contains(&self.next) {
             self.next += 1;

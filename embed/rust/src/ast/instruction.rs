@@ -14,15 +14,13 @@ macro_rules! instructions {
         }
 
         impl Instruction {
-            // The instruction with the number, if it takes `count` operands.
-            pub(crate) fn of_code(
-                number: u8,
-                count: usize,
-                mut operand: impl FnMut() -> Option<Operand>,
-            ) -> Option<Self> {
+            // The instruction with the number and the first operands, if it takes `count` of them.
+            #[inline]
+            pub(crate) fn of_code(number: u8, count: usize, operands: [Operand; 3]) -> Option<Self> {
                 match number {
                     $($number if count == <[&str]>::len(&[$($(stringify!($operand)),+)?]) => {
-                        Some(Instruction::$name $({ $($operand: operand()?),+ })?)
+                        let [$($($operand,)+)? ..] = operands;
+                        Some(Instruction::$name $({ $($operand),+ })?)
                     })+
                     _ => None,
                 }

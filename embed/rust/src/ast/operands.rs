@@ -50,6 +50,13 @@ impl From<ValueId> for Operand {
     }
 }
 
+/// The value of the assignment with this id. That there is one is not tested.
+impl From<Id<Statement>> for Operand {
+    fn from(id: Id<Statement>) -> Self {
+        Operand::Value(id.into())
+    }
+}
+
 impl From<Constant> for Operand {
     fn from(constant: Constant) -> Self {
         Operand::Constant(constant)

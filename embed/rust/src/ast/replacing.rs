@@ -1,16 +1,10 @@
 //! Statements and last lines with other operands in place of theirs.
 use super::{
-    Arena, AssignmentRhs, BlockPc, Cand, Infer, LeftHandSide, Operand, Pc, Replacement,
-    RightHandSide, Statement, ValueId,
+    Arena, AssignmentRhs, BlockPc, Id, LeftHandSide, Operand, Pc, Replacement, RightHandSide,
+    Statement, ValueId,
 };
-
-// Another operand in place of one that is the value.
-fn replaced(operand: Operand, of: ValueId, by: Operand) -> Operand {
-    match operand {
-        Operand::Value(value) if value == of => by,
-        Operand::Value(_) | Operand::Constant(_) => operand,
-    }
-}
+use crate::code::Item;
+use std::fmt;
 
 impl Statement {
     /// Puts in the place of each operand, from left to right, what `f` returns for it.
@@ -38,7 +32,7 @@ impl Statement {
     /// Puts `by` in the place of each operand that is the value `of`. Nothing else changes.
     pub fn replace_uses(&mut self, of: ValueId, by: impl Into<Operand>) {
         let by = by.into();
-        self.map_operands(|operand| replaced(operand, of, by));
+        self.map_operands(|operand| replaced(operand, |value| (value == of).then_some(by)));
     }
 }
 
@@ -52,34 +46,128 @@ impl Arena<Statement> {
     }
 }
 
-impl Infer {
-    // The line has a value, and keeps it where a constant would take its place.
-    fn replace_use(&mut self, of: ValueId, by: Operand) {
-        if let Operand::Value(value) = replaced(self.value.into(), of, by) {
-            self.value = value;
-        }
+// The operand in its place, of a value the one that the function returns.
+fn replaced(operand: Operand, by: impl Fn(ValueId) -> Option<Operand>) -> Operand {
+    match operand {
+        Operand::Value(value) => by(value).unwrap_or(operand),
+        Operand::Constant(_) => operand,
     }
 }
+
+// Puts the operand that the function returns in the place of each that is a value, also in the last lines. An infer line has a value,
+// and keeps it where a constant would take its place.
+fn replace<T: Item>(item: &mut T, by: impl Fn(ValueId) -> Option<Operand>) {
+    for (_, statement) in item.statements_mut() {
+        statement.map_operands(|operand| replaced(operand, &by));
+    }
+    let (infer, operands) = item.last_lines_mut();
+    if let Some(value) = infer {
+        if let Some(Operand::Value(other)) = by(*value) {
+            *value = other;
+        }
+    }
+    for operand in operands.into_iter().flatten() {
+        *operand = replaced(*operand, &by);
+    }
+}
+
+/// See [`Item::replace_uses`].
+pub(crate) fn replace_uses<T: Item>(item: &mut T, of: ValueId, by: Operand) {
+    replace(item, |value| (value == of).then_some(by));
+}
+
+/// See [`Item::replace_many`].
+pub(crate) fn replace_many<T: Item>(
+    item: &mut T,
+    pairs: impl IntoIterator<Item = (ValueId, Operand)>,
+) -> Result<(), Cycle> {
+    let statements = item.statements();
+    let mut by = vec![None; statements.len()];
+    for (of, other) in pairs {
+        if let Some(place) = statements.own(of.0).and_then(|index| by.get_mut(index)) {
+            *place = (other != of.into()).then_some(other);
+        }
+    }
+    let first = statements.id(0);
+    let index_of = |value: ValueId| value.0.is_beside(first).then_some(value.0.index());
+    follow(&mut by, index_of).map_err(|index| Cycle(first.with_index(index)))?;
+    replace(item, |value| by.get(index_of(value)?).copied().flatten());
+    Ok(())
+}
+
+// Lets each chain end: where a comes by b and b by c, a comes by c. The error is the index of a value to which its chain comes back.
+fn follow(
+    by: &mut [Option<Operand>],
+    index_of: impl Fn(ValueId) -> Option<usize>,
+) -> Result<(), usize> {
+    // The index at which the chain began in which a value was seen first.
+    let mut begin_of = vec![None; by.len()];
+    let mut chain = Vec::new();
+    for begin in 0..by.len() {
+        let mut next = Some(begin);
+        let mut end = None;
+        while let Some(at) = next {
+            let Some(other) = by.get(at).copied().flatten() else {
+                break;
+            };
+            end = Some(other);
+            match begin_of[at] {
+                Some(seen) if seen == begin => return Err(at),
+                // It has the end of its chain.
+                Some(_) => break,
+                None => begin_of[at] = Some(begin),
+            }
+            chain.push(at);
+            next = match other {
+                Operand::Value(value) => index_of(value),
+                Operand::Constant(_) => None,
+            };
+        }
+        for at in chain.drain(..) {
+            by[at] = end;
+        }
+    }
+    Ok(())
+}
+
+/// A value whose replacements come back to it: [`Item::replace_many`].
+#[derive(Clone, Copy, Debug, PartialEq, Eq, Hash)]
+pub struct Cycle(Id<Statement>);
+
+impl Cycle {
+    /// The id of the value.
+    pub fn value(&self) -> ValueId {
+        ValueId(self.0)
+    }
+}
+
+impl fmt::Display for Cycle {
+    fn fmt(&self, f: &mut fmt::Formatter<'_>) -> fmt::Result {
+        let index = self.0.index();
+        write!(
+            f,
+            "statement {index}: the replacements of a value come back to it"
+        )
+    }
+}
+
+impl std::error::Error for Cycle {}
 
 impl LeftHandSide {
     /// Puts `by` in the place of each operand that is the value `of`, also in the infer line, unless `by` is a constant.
     ///
-    /// [`Item::replace_uses`](crate::code::Item::replace_uses) is the same for each type, and says more.
+    /// [`Item::replace_uses`] is the same for each type, and says more.
     pub fn replace_uses(&mut self, of: ValueId, by: impl Into<Operand>) {
-        let by = by.into();
-        self.statements.replace_uses(of, by);
-        self.infer.replace_use(of, by);
+        replace_uses(self, of, by.into());
     }
 }
 
 impl RightHandSide {
     /// Puts `by` in the place of each operand that is the value `of`, also in the result line.
     ///
-    /// [`Item::replace_uses`](crate::code::Item::replace_uses) is the same for each type, and says more.
+    /// [`Item::replace_uses`] is the same for each type, and says more.
     pub fn replace_uses(&mut self, of: ValueId, by: impl Into<Operand>) {
-        let by = by.into();
-        self.statements.replace_uses(of, by);
-        self.result = replaced(self.result, of, by);
+        replace_uses(self, of, by.into());
     }
 }
 
@@ -87,27 +175,8 @@ impl Replacement {
     /// Puts `by` in the place of each operand that is the value `of`, also in the last lines; in an infer line not if `by` is a
     /// constant.
     ///
-    /// [`Item::replace_uses`](crate::code::Item::replace_uses) is the same for each type, and says more.
+    /// [`Item::replace_uses`] is the same for each type, and says more.
     pub fn replace_uses(&mut self, of: ValueId, by: impl Into<Operand>) {
-        let by = by.into();
-        match self {
-            Replacement::LhsRhs {
-                statements,
-                lhs,
-                rhs,
-            } => {
-                statements.replace_uses(of, by);
-                lhs.replace_use(of, by);
-                *rhs = replaced(*rhs, of, by);
-            }
-            Replacement::Cand {
-                statements,
-                cand: Cand { lhs, rhs, .. },
-            } => {
-                statements.replace_uses(of, by);
-                *lhs = replaced(*lhs, of, by);
-                *rhs = replaced(*rhs, of, by);
-            }
-        }
+        replace_uses(self, of, by.into());
     }
 }

@@ -151,12 +151,21 @@ impl<'a> Decoder<'a> {
         self.list(OPERAND, Self::operand)
     }
 
+    #[inline]
     fn instruction(&mut self) -> Option<Instruction> {
         let number = self.byte()?;
         let count = self.size()?;
-        Instruction::of_code(number, count, || self.operand())
+        let mut operands = [Operand::Constant(Constant {
+            value: 0,
+            r#type: None,
+        }); 3];
+        for operand in operands.get_mut(..count)? {
+            *operand = self.operand()?;
+        }
+        Instruction::of_code(number, count, operands)
     }
 
+    #[inline]
     fn rhs(&mut self) -> Option<AssignmentRhs> {
         Some(match self.byte()? {
             0 => AssignmentRhs::Var,
@@ -211,6 +220,7 @@ impl<'a> Decoder<'a> {
         self.list(BYTE, Self::root_attribute)
     }
 
+    #[inline]
     fn assignment(&mut self) -> Option<Assignment> {
         Some(Assignment {
             name: std::str::from_utf8(self.bytes()?).ok()?.to_owned(),
@@ -220,6 +230,7 @@ impl<'a> Decoder<'a> {
         })
     }
 
+    #[inline]
     fn statement(&mut self) -> Option<Statement> {
         match self.byte()? {
             0 => self.assignment().map(Statement::Assignment),

@@ -3,6 +3,7 @@ use crate::ast::{
     Arena, Assignment, AssignmentRhs, Attribute, Cand, Id, Infer, LeftHandSide, Operand,
     Replacement, RightHandSide, RootAttribute, Statement, Type,
 };
+use crate::raw;
 
 // The position of a statement that the item has not.
 const NOWHERE: u64 = u64::MAX;
@@ -11,6 +12,15 @@ const NOWHERE: u64 = u64::MAX;
 pub trait Encode {
     /// Appends the code.
     fn encode(&self, code: &mut Vec<u8>);
+
+    /// Gives the code to the function.
+    fn with_code<R>(&self, work: impl FnOnce(&[u8]) -> R) -> R {
+        raw::with_buffer(|code| {
+            code.clear();
+            self.encode(code);
+            work(code)
+        })
+    }
 }
 
 // Appends to the code of an item that has these statements.
