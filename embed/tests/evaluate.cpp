@@ -300,12 +300,13 @@ int same(souper::kind k, const char *before, const char *after) {
 } // namespace
 
 int main(int argc, char **argv) {
-    const auto k = argc > 2 ? souper::kind_named(argv[2]) : std::nullopt;
-    if (k && argc == 3 && argv[1] == std::string("make")) {
-        return make(*k);
-    }
-    if (k && argc == 5 && argv[1] == std::string("same")) {
-        return same(*k, argv[3], argv[4]);
+    if (const auto k = souper::kind_named(argc > 2 ? argv[2] : "")) {
+        if (argc == 3 && argv[1] == std::string("make")) {
+            return make(*k);
+        }
+        if (argc == 5 && argv[1] == std::string("same")) {
+            return same(*k, argv[3], argv[4]);
+        }
     }
     std::cerr << "usage: evaluate make KIND, or evaluate same KIND BEFORE AFTER\n";
     return 2;
