@@ -1,7 +1,7 @@
-//! Left-hand sides that a stored replacement answers though they have more path conditions and facts.
+//! Left-hand sides that may have more path conditions and facts than a stored replacement.
 //!
-//! A replacement that holds under fewer conditions holds under more. So it answers each left-hand side into which its own *embeds*: the same
-//! graph of the root, the path conditions of the replacement among those of the query, and its facts among the query's.
+//! A replacement *embeds* into a left-hand side, the query, if its root needs the same graph, its path conditions are among the query's, and
+//! its facts too. Nothing is said of whether the completed query is correct.
 #![tactic(auto)]
 
 mod facts;

@@ -59,7 +59,7 @@ fn hint_line(alloc: Global, hint: Option<&str>) -> Result<String, AllocError>
 }
 
 impl Rejected<'_> {
-    /// The line of the error in the stream of this name, which ends with the rejected part or goes on, and the line of the hint.
+    /// The line of the error in the stream of this name, which ends with the rejected part or continues, and the line of the hint.
     pub(crate) fn lines(
         self,
         alloc: Global,
