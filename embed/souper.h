@@ -1,6 +1,6 @@
 /* Souper IR for C and C++: canonical texts and their keys, whether two texts have the same graphs, whether a text is canonical,
- * what replacements answer for left-hand sides, the code of graphs, which is read and written without a parser, and where a
- * stream of items may be cut.
+ * what replacements answer for left-hand sides, the code of graphs, which is read and written without a parser, where a stream of
+ * items may be cut, and where a text is at fault.
  *
  * The functions are those of libsouper_c.a, whose contracts are proved. docs/EMBEDDING.md says what is proved, what is tested,
  * and how to build and link.
@@ -25,8 +25,9 @@
 #include <stddef.h>
 #include <stdint.h>
 
-/* The version of this header, and of what is packed with it. The library has no call that says its own. */
+/* The version of this header, and of what is packed with it; the number is as of souper_version. */
 #define SOUPER_VERSION "1.0.0"
+#define SOUPER_VERSION_NUMBER 1000000
 
 #if defined(__GNUC__)
 #define SOUPER_CALL __attribute__((nonnull, warn_unused_result))
@@ -113,6 +114,9 @@ typedef struct SouperFlaw {
     size_t position;   /* AT_STATEMENT: the position of the statement among those of the item, from 0 */
 } SouperFlaw;
 
+/* The version of the library: 1,000,000 times the major number, 1,000 times the minor number, and the patch number. */
+uint32_t souper_version(void);
+
 /* Writes the canonical text of each item that the text spells, a newline after each, to the beginning of `out`.
  *
  * DONE: `length` bytes were written.
@@ -164,6 +168,16 @@ SOUPER_CALL SouperOutcome souper_check(uint32_t kind, const uint8_t *text, size_
 
 /* Where the text is at fault. The numbers of an outcome are of the byte before; these are for editors. */
 SOUPER_CALL SouperLocation souper_locate(uint32_t kind, const uint8_t *text, size_t text_length);
+
+/* Writes the hint for a refused text to the beginning of `out`: what its writer may have meant, for a person, as UTF-8 of one line
+ * without its end. It may name lines: `lines` is how many come before the text in its input, 0 if it is whole.
+ *
+ * DONE: the text spells items. REFUSED: `length` bytes were written; 0 if there is no hint. SHORT: `out` has fewer than the `length`
+ * bytes that REFUSED would write. NO_KIND, OUT_OF_MEMORY, NOT_UTF8: as above.
+ *
+ * The other bytes of `out` are as before; unless the status is REFUSED, all of them. */
+SOUPER_CALL SouperOutcome souper_hint(uint32_t kind, size_t lines, const uint8_t *text, size_t text_length, uint8_t *out,
+                                      size_t out_length);
 
 /* Whether two texts spell lists of one length, in which each item is the same graph as the one at its index in the other.
  *

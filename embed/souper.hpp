@@ -106,6 +106,9 @@ namespace souper {
 /// The version of these headers.
 inline constexpr std::string_view version = SOUPER_VERSION;
 
+/// The version of the library that is linked, as a number: 1,002,003 is 1.2.3.
+inline std::uint32_t library_version() { return souper_version(); }
+
 // A library of a later version may return numbers that these headers have no names for. As a value of an enumeration such a number
 // stays what it is, and its text is `unknown(N)`.
 
@@ -1157,6 +1160,7 @@ struct error {
     bool at_end = false; ///< refused: whether the text ended where more is wanted; false without a location
     std::string message = {}; ///< refused: what `shown` says, without the place and the line; else what the exception says; empty if
                               ///< memory ran out
+    std::string hint = {}; ///< refused: what the writer may have meant, for a person, in one line; empty if there is no hint
 };
 
 /// What the exception says.
@@ -2094,9 +2098,20 @@ inline std::string_view line_at(std::string_view text, std::size_t offset) noexc
     return line;
 }
 
-// Where the text is at fault, and what shows it, if the error says that it was refused.
+// The hint for a refused text after so many lines; empty if there is none, or if memory ran out for it.
+inline std::string hint(kind k, std::size_t lines, std::string_view text) {
+    buffer out;
+    error found;
+    collect(out, 256, found, [k, lines, text](std::uint8_t *to, std::size_t room) {
+        return souper_hint(static_cast<std::uint32_t>(k), lines, bytes(text), text.size(), to, room);
+    });
+    return found.shown;
+}
+
+// Where the text is at fault, what shows it, and the hint, if the error says that it was refused.
 inline void locate(kind k, std::string_view text, error &e) {
     if (e.what == status::refused) {
+        e.hint = hint(k, 0, text);
         const SouperLocation found = souper_locate(static_cast<std::uint32_t>(k), bytes(text), text.size());
         if (found.status == SOUPER_REFUSED) {
             e.location = location{found.offset, found.line, found.column};
@@ -2465,15 +2480,19 @@ inline std::ostream &operator<<(std::ostream &out, const item &one) {
 class refused : public std::runtime_error {
 public:
     refused(const std::string &shown, const SouperOutcome &outcome, const std::optional<souper::location> &at = std::nullopt,
-            bool ended = false)
+            bool ended = false, const std::string &meant = {})
         : std::runtime_error(shown), offset(outcome.offset), line(outcome.line), column(outcome.column), input(outcome.input),
-          location(at), at_end(ended), text(std::make_shared<const std::string>(shown)) {}
+          location(at), at_end(ended), text(std::make_shared<const std::string>(shown)),
+          said(std::make_shared<const std::string>(meant)) {}
 
     /// What `what()` shows, also after a byte 0.
     const std::string &shown() const noexcept { return *text; }
 
     /// What it shows, without the place and the line.
     std::string message() const { return std::string(detail::message_of(*text)); }
+
+    /// What the writer may have meant, for a person, in one line; empty if there is no hint.
+    const std::string &hint() const noexcept { return *said; }
 
     std::size_t offset; ///< how many bytes were read
     std::size_t line;   ///< the line of the last of these, or of the first byte if there is none; from 1
@@ -2483,7 +2502,7 @@ public:
     bool at_end; ///< whether the text ended where more is wanted; false without a location
 
 private:
-    std::shared_ptr<const std::string> text;
+    std::shared_ptr<const std::string> text, said;
 };
 
 /// A text is not UTF-8.
@@ -2528,7 +2547,7 @@ namespace detail {
     switch (e.what) {
     case status::refused:
         throw refused(e.shown, SouperOutcome{SOUPER_REFUSED, e.input, e.shown.size(), e.offset, e.line, e.column}, e.location,
-                      e.at_end);
+                      e.at_end, e.hint);
     case status::not_utf8:
         throw e.line > 0 ? not_utf8(e.offset, e.line) : not_utf8(e.input);
     case status::no_kind:
@@ -2891,6 +2910,9 @@ private:
                 return false;
             }
             detail::place(e, done);
+            if (done.lines > 0 && !e.hint.empty()) {
+                e.hint = detail::hint(items_of, done.lines, rest.substr(0, segment.length));
+            }
             pass(segment.length, {});
         }
         rejected = left;

@@ -89,6 +89,17 @@ static void show(const uint8_t *text, size_t length) {
     }
 }
 
+/* Writes the hint for a refused text, if there is one. One that is longer than the buffer is left out. */
+static void show_hint(uint32_t kind, const uint8_t *text, size_t length) {
+    uint8_t out[512];
+    SouperOutcome outcome = souper_hint(kind, 0, text, length, out, sizeof out);
+    if (outcome.status == SOUPER_REFUSED && outcome.length > 0) {
+        fputs("hint: ", stderr);
+        show(out, outcome.length);
+        fputc('\n', stderr);
+    }
+}
+
 int main(int argc, char **argv) {
     int kind = argc == 3 ? kind_of(argv[1]) : -1, status = 3;
     size_t length = 0;
@@ -112,6 +123,7 @@ int main(int argc, char **argv) {
         fprintf(stderr, "%s:%zu:%zu (byte %zu)\n", argv[2], outcome.line, outcome.column, outcome.offset);
         show(out, outcome.length);
         fputc('\n', stderr);
+        show_hint((uint32_t)kind, text, length);
         status = 1;
         break;
     default:

@@ -50,6 +50,7 @@ int main(int argc, char **argv) {
         } catch (const souper::refused &refusal) {
             const auto at = refusal.location.value_or(souper::location{refusal.offset, refusal.line, refusal.column});
             std::cerr << visible(argv[i]) << ":" << at.line << ":" << at.column << ": " << visible(refusal.message()) << "\n";
+            std::cerr << (refusal.hint().empty() ? "" : "hint: " + visible(refusal.hint()) + "\n");
             status = 1;
         } catch (const souper::not_utf8 &error) {
             std::cerr << visible(argv[i]) << ": " << error.what() << "\n";

@@ -39,6 +39,15 @@ static size_t count_lines(const uint8_t *text, size_t length) {
     return count;
 }
 
+/* Writes the hint for a refused segment, if there is one, with lines of the stream. */
+static void print_hint(uint32_t kind, size_t lines, const uint8_t *text, size_t length) {
+    char out[512];
+    SouperOutcome outcome = souper_hint(kind, lines, text, length, (uint8_t *)out, sizeof out);
+    if (outcome.status == SOUPER_REFUSED && outcome.length > 0) {
+        fprintf(stderr, "hint: %.*s\n", (int)outcome.length, out);
+    }
+}
+
 /* Whole segments: all in one call or, if one is invalid, one by one. `*line` is the number of lines before them. */
 static int read_segments(uint32_t kind, const uint8_t *text, size_t length, size_t *line) {
     uint32_t done = print_keys(kind, text, length);
@@ -53,6 +62,7 @@ static int read_segments(uint32_t kind, const uint8_t *text, size_t length, size
         if (done == SOUPER_REFUSED) {
             SouperLocation at = souper_locate(kind, text, segment.length);
             fprintf(stderr, "%zu:%zu: refused\n", *line + at.line, at.column);
+            print_hint(kind, *line, text, segment.length);
             status = 1;
         } else if (done != SOUPER_DONE) {
             fprintf(stderr, "after line %zu: %s\n", *line, souper_status_text(done));

@@ -298,8 +298,18 @@ class Typing(unittest.TestCase):
         opened.load("lhs", "%first = var infer %first")
         self.assertEqual((opened.value("text"), opened.value("other")), ("%first = var infer %first", ""))
 
-    def test_a_hint_has_its_place(self) -> None:
-        opened.set("text", "infer")
+    def test_hints(self) -> None:
+        opened.load("lhs", "%sum = var infer %sun")
+        self.assertEqual(opened.text("hint"), "hint: did you mean '%sum'?")
+        opened.browser.run("document.querySelector('summary').click()")
+        opened.set("other", "%sum = vra infer %sum")
+        self.assertEqual(opened.text("other-hint"), "hint: did you mean 'var'?")
+        for name in ("text", "other"):
+            opened.set(name, "%x = var infer %y")
+        self.assertEqual([opened.text(name) for name in ("hint", "other-hint")], [None, None])
+
+    def test_a_hint_is_no_markup(self) -> None:
+        opened.set("text", "%x = var infer %y")
         self.assertIsNone(opened.text("hint"))
         opened.browser.run("showHint(document.getElementById('hint'), {hint: '<b>add</b>\\x1b'})")
         self.assertEqual(opened.text("hint"), "hint: <b>add</b>␛")

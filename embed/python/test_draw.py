@@ -260,6 +260,16 @@ class Program(unittest.TestCase):
         found = program("draw", "lhs", input=path.read_bytes())
         self.assertEqual((found.returncode, found.stderr.decode()), (1, f"(standard input):{shown}"))
 
+    def test_a_hint(self) -> None:
+        text = b"%sum = var\ninfer %sun"
+        shown = "2:7: no value named '%sun' in scope\n     |\n   2 | infer %sun\n     |       ^\nhint: did you mean '%sum'?\n"
+        found = program("draw", "lhs", input=text)
+        self.assertEqual((found.returncode, found.stdout, found.stderr.decode()), (1, b"", f"(standard input):{shown}"))
+        with tempfile.TemporaryDirectory() as folder:
+            path = Path(folder, "a.lhs")
+            path.write_bytes(text)
+            self.assertEqual(self.at_terminal("lhs", path), f"{path}:{shown}")
+
     def at_terminal(self, *arguments: str | Path) -> str:
         """What the program writes to standard error, which is a terminal."""
         ours, theirs = pty.openpty()

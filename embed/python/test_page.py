@@ -420,6 +420,7 @@ class Answers(unittest.TestCase):
             location = refusal.location
             assert location is not None
             self.assertEqual((error["line"], error["column"]), location[1:])
+            self.assertEqual(error["hint"], refusal.hint)
             head = f"unknown:{error['line']}:{error['column']}: {error['message']}\n     |\n"
             self.assertTrue(refusal.shown.startswith(head), record)
             self.assertEqual(error["source"], text.split("\n")[location.line - 1].removesuffix("\r"))
@@ -427,6 +428,11 @@ class Answers(unittest.TestCase):
             self.assertEqual(len(before.encode()), location.offset)
             self.assertTrue(error["source"].startswith(error["before"]))
             self.assertEqual(len(error["before"].encode()), error["column"] - 1)
+
+    def test_hints(self) -> None:
+        for text, hint in (("%sum = var infer %sun", "did you mean '%sum'?"), ("%x = var infer %y", None)):
+            texts = self.shown("lhs", text, text)["texts"]
+            self.assertEqual([one["error"]["hint"] for one in texts], [hint, hint])
 
     def test_places_are_in_units_of_the_script(self) -> None:
         error = self.shown("lhs", "; \U0001f600é\n%x = var ; é\ninfer\u2003%x 5")["texts"][0]["error"]

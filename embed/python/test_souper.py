@@ -305,6 +305,49 @@ class Locations(unittest.TestCase):
                 souper.format("lhs", "")
         found = raised.exception
         self.assertEqual((found.offset, found.location, found.at_end), (9, None, False))
+        self.assertIsNone(found.hint)
+
+
+class Hints(unittest.TestCase):
+    """What the writers of refused texts may have meant."""
+
+    TWICE = "%left = var\n%left = var\ninfer %left\n"
+
+    def test_each_call(self) -> None:
+        for kind, text, hint in (
+            (Kind.LHS, "%x = var\n%y = ad %x, 1\ninfer %y", "did you mean 'add'?"),
+            (Kind.RHS, "%x = var\nreslt %x", "did you mean 'result'?"),
+            (Kind.REP, "cnd 1 2", "did you mean 'cand'?"),
+            (Kind.LHS, self.TWICE, "'%left' is defined on line 1"),
+            (Kind.LHS, "%x = var\n", "the 'infer' line is missing at the end"),
+            (Kind.LHS, "%x = var\ninfer %y", None),
+        ):
+            calls = [*each_call(kind, text.encode()), partial(souper.same, kind, "", text)]
+            if kind is Kind.REP:
+                calls.append(partial(souper.find, text, ""))
+            for call in calls:
+                with self.assertRaises(souper.Refused) as raised:
+                    call()
+                found = raised.exception
+                self.assertEqual(found.hint, hint, text)
+                self.assertNotIn("hint", str(found))
+                self.assertEqual(pickle.loads(pickle.dumps(found)).hint, hint)
+
+    def of_stream(self, text: str, by_segments: bool) -> list[str | None]:
+        found: list[str | None] = []
+        items = souper.stream(
+            "lhs", io.BytesIO(text.encode()), by_segments=by_segments,
+            refused=lambda refusal: found.append(refusal.hint),
+        )
+        self.assertEqual(len(list(items)), 1)
+        return found
+
+    def test_the_lines_of_a_stream(self) -> None:
+        rest = "%y = ad 1, 2\ninfer %y\n%x = var\ninfer %y\n"
+        hints = ["'%left' is defined on line 4", "did you mean 'add'?", None]
+        for by_segments in (False, True):
+            found = self.of_stream(f"%x = var\ninfer %x\n\n{self.TWICE}{rest}", by_segments)
+            self.assertEqual(found, hints)
 
 
 class Streams(unittest.TestCase):
@@ -1953,6 +1996,10 @@ class Pages(unittest.TestCase):
     def test_the_version_is_the_crate_s(self) -> None:
         manifest = (ROOT / "embed/rust/Cargo.toml").read_text()
         self.assertEqual(re.findall(r'^version = "(.*)"$', manifest, re.MULTILINE), [souper.__version__])
+
+    def test_the_version_of_the_library_is_the_package_s(self) -> None:
+        major, minor, patch = map(int, souper.__version__.split("."))
+        self.assertEqual(souper.library_version(), major * 1_000_000 + minor * 1_000 + patch)
 
 
 class RecordedGraph:

@@ -151,9 +151,17 @@ static void questions(const Record *record, SouperOutcome format) {
     SouperOutcome second = souper_same(record->kind, (const uint8_t *)"", 0, record->text, record->text_length);
     SouperOutcome wanted = nothing;
     SouperLocation location = souper_locate(record->kind, record->text, record->text_length);
+    uint8_t room[1024];
+    size_t written;
+    memset(room, 0xaa, sizeof room);
+    SouperOutcome hint = souper_hint(record->kind, 0, record->text, record->text_length, room, sizeof room);
     if (record->status == SOUPER_REFUSED) {
         expect(is_place(record, format), "its place", record);
         expect(is_location(record, format, location), "its location", record);
+        wanted.length = hint.length;
+        wanted.status = hint.length <= sizeof room ? SOUPER_REFUSED : SOUPER_SHORT;
+        written = wanted.status == SOUPER_REFUSED ? hint.length : 0;
+        expect(equal(hint, wanted) && untouched(room + written, sizeof room - written), "its hint", record);
         expect(equal(check, format), "the check of what is refused", record);
         expect(equal(first, format), "a first text that is refused", record);
         format.input = 1;
@@ -164,6 +172,7 @@ static void questions(const Record *record, SouperOutcome format) {
     wanted.length = record->answer_length;
     expect(equal(format, wanted), "an outcome without a place", record);
     expect(is_located(location, SOUPER_DONE, 0, 0, 0, 0), "no location", record);
+    expect(equal(hint, nothing) && untouched(room, sizeof room), "no hint", record);
     wanted.status = is_same ? SOUPER_DONE : SOUPER_DIFFERENT;
     expect(equal(check, wanted), "whether it is canonical", record);
     wanted = nothing;
@@ -263,6 +272,44 @@ static void locations(void) {
     }
 }
 
+/* The hints of rejected texts, by buffers of every length. */
+static void hints(void) {
+    static const char twice[] = "%left = var\n%left = var\ninfer %left\n";
+    static const struct {
+        uint32_t kind;
+        size_t lines;
+        const char *text, *hint;
+    } rows[] = {
+        {SOUPER_LHS, 0, "%x = var\n%y = ad %x, 1\ninfer %y", "did you mean 'add'?"},
+        {SOUPER_RHS, 5, "%x = var\nreslt %x", "did you mean 'result'?"},
+        {SOUPER_REP, 0, "cnd 1 2", "did you mean 'cand'?"},
+        {SOUPER_LHS, 0, "%x = var\n", "the 'infer' line is missing at the end"},
+        {SOUPER_LHS, 0, "%x = var\ninfer %y", ""},
+        {SOUPER_LHS, 0, twice, "'%left' is defined on line 1"},
+        {SOUPER_LHS, 3, twice, "'%left' is defined on line 4"},
+    };
+    for (size_t i = 0; i < sizeof rows / sizeof *rows; i++) {
+        size_t length = strlen(rows[i].hint);
+        for (size_t room = 0; room <= length + 3; room++) {
+            uint8_t *out = buffer(room);
+            SouperOutcome wanted = nothing;
+            SouperOutcome outcome = souper_hint(rows[i].kind, rows[i].lines, (const uint8_t *)rows[i].text, strlen(rows[i].text), out, room);
+            wanted.status = room < length ? SOUPER_SHORT : SOUPER_REFUSED;
+            wanted.length = length;
+            expect(equal(outcome, wanted), rows[i].hint, NULL);
+            if (wanted.status == SOUPER_SHORT) {
+                expect(untouched(out, room), "a short hint", NULL);
+            } else {
+                expect(memcmp(out, rows[i].hint, length) == 0 && untouched(out + length, room - length), rows[i].hint, NULL);
+            }
+            free(out);
+        }
+    }
+    uint8_t byte = 0xaa;
+    SouperOutcome outcome = souper_hint(SOUPER_LHS, SIZE_MAX, (const uint8_t *)twice, strlen(twice), &byte, 1);
+    expect(outcome.status == SOUPER_SHORT && byte == 0xaa, "a hint after more lines than there can be", NULL);
+}
+
 /* Two replacements with one left-hand side, the first of them twice, by buffers of every length; a left-hand side without an answer. */
 static void found(void) {
     static const char store[] = "%x:i32 = var %y = mul %x, 2 infer %y %z = shl %x, 1 result %z  %a:i32 = var %b = mul %a, 2 cand %b 0 "
@@ -308,6 +355,7 @@ static void numbers(void) {
         expect(equal(souper_key(none[i], 0, bad, sizeof bad, &byte, 1), no_kind) && byte == 0xaa, "no kind, key", NULL);
         expect(equal(souper_check(none[i], bad, sizeof bad), no_kind), "no kind, check", NULL);
         expect(is_located(souper_locate(none[i], bad, sizeof bad), SOUPER_NO_KIND, 0, 0, 0, 0), "no kind, locate", NULL);
+        expect(equal(souper_hint(none[i], 0, bad, sizeof bad, &byte, 1), no_kind) && byte == 0xaa, "no kind, hint", NULL);
         expect(souper_flaw(none[i], bad, sizeof bad).status == SOUPER_NO_KIND, "no kind, flaw", NULL);
         expect(equal(souper_last_cut(none[i], bad, sizeof bad), no_kind), "no kind, last cut", NULL);
         expect(equal(souper_first_segment(none[i], bad, sizeof bad), no_kind), "no kind, first segment", NULL);
@@ -321,6 +369,7 @@ static void numbers(void) {
         expect(souper_write(kind, bad, sizeof bad, &byte, 1).status == SOUPER_NO_CODE && byte == 0xaa, "no code", NULL);
         expect(equal(souper_check(kind, bad, sizeof bad), no_text), "no text, check", NULL);
         expect(is_located(souper_locate(kind, bad, sizeof bad), SOUPER_NOT_UTF8, 0, 0, 0, 0), "no text, locate", NULL);
+        expect(equal(souper_hint(kind, 0, bad, sizeof bad, &byte, 1), no_text) && byte == 0xaa, "no text, hint", NULL);
         expect(souper_flaw(kind, bad, sizeof bad).status == SOUPER_NO_CODE, "no code, flaw", NULL);
         expect(equal(souper_last_cut(kind, bad, sizeof bad), nothing), "an unfinished line, last cut", NULL);
         expect(equal(souper_last_cut(kind, bad_line, sizeof bad_line), no_text), "no text, last cut", NULL);
@@ -331,6 +380,7 @@ static void numbers(void) {
         expect(equal(souper_write(kind, &empty, 0, &byte, 0), nothing), "no bytes, write", NULL);
         expect(equal(souper_check(kind, &empty, 0), nothing), "no bytes, check", NULL);
         expect(is_located(souper_locate(kind, &empty, 0), SOUPER_DONE, 0, 0, 0, 0), "no bytes, locate", NULL);
+        expect(equal(souper_hint(kind, 0, &empty, 0, &byte, 0), nothing), "no bytes, hint", NULL);
         expect(souper_flaw(kind, &empty, 0).status == SOUPER_NO_CODE, "no bytes, flaw", NULL);
         expect(equal(souper_last_cut(kind, &empty, 0), nothing), "no bytes, last cut", NULL);
         expect(equal(souper_first_segment(kind, &empty, 0), nothing), "no bytes, first segment", NULL);
@@ -372,6 +422,7 @@ int main(int argc, char **argv) {
         }
     }
     locations();
+    hints();
     found();
     numbers();
     texts(souper_status_text, SOUPER_DONE, SOUPER_NO_FLAGS);

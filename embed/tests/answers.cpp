@@ -161,7 +161,38 @@ void locations() {
     }
     const SouperOutcome outcome = {SOUPER_REFUSED, 0, 5, 1, 1, 1};
     const souper::refused made("shown", outcome);
-    expect(!made.location && !made.at_end && made.offset == 1, "an exception without a location", nullptr);
+    expect(!made.location && !made.at_end && made.hint().empty() && made.offset == 1, "an exception without a location", nullptr);
+}
+
+// The hint of the refusal of a call, which what it shows has not; a byte 0 if it is not refused.
+template <typename Call> std::string hint_of(Call call) {
+    try {
+        call();
+        return std::string(1, '\0');
+    } catch (const souper::refused &refusal) {
+        const souper::refused copy = refusal;
+        return copy.shown().find("hint") == std::string::npos ? copy.hint() : copy.shown();
+    }
+}
+
+void hinted(const char *text, const char *hint) {
+    const souper::kind lhs = souper::kind::lhs;
+    expect(hint_of([&] { souper::format(lhs, text); }) == hint, hint, nullptr);
+    expect(hint_of([&] { souper::check(lhs, text); }) == hint, hint, nullptr);
+    expect(hint_of([&] { souper::same(lhs, text, "x"); }) == hint, hint, nullptr);
+    expect(hint_of([&] { souper::same(lhs, "", text); }) == hint, hint, nullptr);
+    expect(hint_of([&] { souper::read(lhs, text); }) == hint, hint, nullptr);
+    expect(hint_of([&] { souper::key(lhs, text); }) == hint, hint, nullptr);
+    expect(hint_of([&] { souper::records(lhs, text, true); }) == hint, hint, nullptr);
+    expect(hint_of([&] { souper::find("", text); }) == hint, hint, nullptr);
+}
+
+void hints() {
+    hinted("%x = var\n%y = ad %x, 1\ninfer %y", "did you mean 'add'?");
+    hinted("%left = var\n%left = var\ninfer %left\n", "'%left' is defined on line 1");
+    hinted("%x = var\n", "the 'infer' line is missing at the end");
+    hinted("%x = var\ninfer %y", "");
+    expect(hint_of([] { souper::find("cnd 1 2", ""); }) == "did you mean 'cand'?", "the hint of a store", nullptr);
 }
 
 void wrong_kind() {
@@ -193,6 +224,7 @@ int main(int argc, char **argv) {
     found();
     long_answers();
     locations();
+    hints();
     wrong_kind();
     free_records(records);
     return summary("C++: the stored answers, exceptions, views without bytes");

@@ -353,6 +353,7 @@ void words() {
     e.what = souper::status::out_of_memory;
     e.message.clear();
     expect(shown(e) == "out of memory" && souper::version == SOUPER_VERSION, "no memory", nullptr);
+    expect(souper::library_version() == SOUPER_VERSION_NUMBER, "the version of the library", nullptr);
 }
 
 void built_replacements() {

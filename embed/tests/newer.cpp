@@ -1,4 +1,4 @@
-// A library of a later version, whose statuses, reasons, locations and operations souper.hpp does not know. The eleven calls are here, so
+// A library of a later version, whose statuses, reasons, locations and operations souper.hpp does not know. The calls are here, so
 // nothing of the archive is linked.
 #include "souper.hpp"
 
@@ -14,7 +14,8 @@ namespace {
 SouperOutcome outcome;
 SouperFlaw flaw_found;
 SouperLocation location;
-std::string output;
+SouperOutcome hinted;
+std::string output, meant;
 
 SouperOutcome answer(std::uint8_t *out, std::size_t room) {
     std::memcpy(out, output.data(), std::min(output.size(), room));
@@ -24,6 +25,8 @@ SouperOutcome answer(std::uint8_t *out, std::size_t room) {
 } // namespace
 
 extern "C" {
+
+std::uint32_t souper_version() { return 3000000; }
 
 SouperOutcome souper_format(std::uint32_t, const std::uint8_t *, std::size_t, std::uint8_t *out, std::size_t room) {
     return answer(out, room);
@@ -56,6 +59,11 @@ SouperOutcome souper_first_segment(std::uint32_t, const std::uint8_t *, std::siz
 SouperFlaw souper_flaw(std::uint32_t, const std::uint8_t *, std::size_t) { return flaw_found; }
 
 SouperLocation souper_locate(std::uint32_t, const std::uint8_t *, std::size_t) { return location; }
+
+SouperOutcome souper_hint(std::uint32_t, std::size_t, const std::uint8_t *, std::size_t, std::uint8_t *out, std::size_t room) {
+    std::memcpy(out, meant.data(), std::min(meant.size(), room));
+    return hinted;
+}
 
 } // extern "C"
 
@@ -150,24 +158,28 @@ void places() {
     expect(!souper::try_write(one, out, e) && e.what == status::not_well_formed && !e.why, "another code", nullptr);
 }
 
-// Refusals that are shown in another form, and without a location.
+// Refusals that are shown in another form, without a location and without a hint.
 void refusals() {
     location = {77, 1, 1, 1, 1};
+    meant = "no";
+    hinted = {77, 1, meant.size(), 1, 1, 1};
     for (const char *const shown : {"", "x", "a: b", "\n", "\n\n\n", "a: b\n\n\n", "unknown:1:1: no\n     |\n   1 | x\n     | ^"}) {
         output = shown;
         outcome = {SOUPER_REFUSED, 0, output.size(), 1, 1, 1};
         error e;
         std::vector<item> items;
-        expect(!souper::try_read(kind::lhs, "x", items, e) && e.shown == output && !e.location && !e.at_end,
+        expect(!souper::try_read(kind::lhs, "x", items, e) && e.shown == output && !e.location && !e.at_end && e.hint.empty(),
                "a refusal without a location", nullptr);
         expect(output.find("no") == std::string::npos || e.message == "no", "its message", nullptr);
         expect(output != "a: b\n\n\n" || e.message == "b", "a short message", nullptr);
     }
     location = {SOUPER_REFUSED, 1, 4, 2, 3};
+    hinted.status = SOUPER_REFUSED;
     error e;
     std::vector<item> items;
-    expect(!souper::try_read(kind::lhs, "x\nyz\r\n", items, e) && e.shown == "unknown:2:3: no\n     |\n   2 | yz\n     |   ^" && e.at_end,
-           "a refusal with a location", nullptr);
+    expect(!souper::try_read(kind::lhs, "x\nyz\r\n", items, e) && e.shown == "unknown:2:3: no\n     |\n   2 | yz\n     |   ^" && e.at_end
+               && e.hint == "no",
+           "a refusal with a location and a hint", nullptr);
 }
 
 void operations() {

@@ -37,7 +37,7 @@ void __wrap_free(void *block) {
     __real_free(block);
 }
 
-enum { FORMAT, CHECK, SAME, READ, WRITE, KEY, LOCATE, FLAW, FIND, CALLS };
+enum { FORMAT, CHECK, SAME, READ, WRITE, KEY, LOCATE, HINT, FLAW, FIND, CALLS };
 
 static uint8_t out[1 << 16], code[1 << 16];
 static size_t code_length;
@@ -78,6 +78,8 @@ static SouperOutcome call(int which, const Record *record) {
         return souper_key(record->kind, SOUPER_KEY | SOUPER_RENAME, record->text, record->text_length, out, sizeof out);
     case LOCATE:
         return locate(record);
+    case HINT:
+        return souper_hint(record->kind, 3, record->text, record->text_length, out, sizeof out);
     case FLAW:
         return flaw(record);
     case FIND:

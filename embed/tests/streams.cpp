@@ -311,6 +311,7 @@ void next() {
         expect(false, "an exception at the end", nullptr);
     } catch (const souper::refused &refusal) {
         expect(refusal.location && refusal.location->line == 10, "the rest is refused with the last item", nullptr);
+        expect(refusal.hint().empty(), "no hint", nullptr);
     }
     expect(!from.next() && !from.next(), "the end", nullptr);
     reader none(static_cast<kind>(3));
@@ -320,6 +321,21 @@ void next() {
     expect(!none.try_next(one, e) && e.what == status::no_kind, "no kind", nullptr);
     none.finish();
     expect(!none.try_next(one, e) && e.what == status::no_kind, "no kind at the end", nullptr);
+}
+
+// The lines of a hint are those of the stream.
+void hints() {
+    for (const bool by_segments : {false, true}) {
+        reader from(kind::lhs, by_segments);
+        std::optional<souper::item> one;
+        souper::error e;
+        from.push("%x = var\ninfer %x\n\n%left = var\n%left = var\ninfer %left\n%y = ad 1, 2\n%left = var\n%left = var\ninfer %left\n");
+        from.finish();
+        expect(from.try_next(one, e) && one && e.hint.empty(), "an item before hints", nullptr);
+        expect(!from.try_next(one, e) && e.hint == "'%left' is defined on line 4", "the line of a hint", nullptr);
+        expect(!from.try_next(one, e) && e.hint == "did you mean 'add'?", "a hint without a line", nullptr);
+        expect(from.try_next(one, e) && !one && e.hint.empty(), "the end after hints", nullptr);
+    }
 }
 
 // The stored answers of one kind, one after the other: as many items as in the texts alone, if these are valid.
@@ -382,6 +398,7 @@ int main(int argc, char **argv) {
     fault_first();
     no_text();
     next();
+    hints();
     ends();
     loops();
     answers(records, stored);

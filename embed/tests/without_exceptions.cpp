@@ -21,7 +21,7 @@ const char *const canonical = "%x:i8 = var\n%y = add %x, 1\ninfer %y\n\n";
 
 bool is_none(const error &e) {
     return e.what == status::done && e.input == 0 && e.index == 0 && e.offset == 0 && e.line == 0 && e.column == 0
-        && e.shown.empty() && !e.why && !e.location && !e.at_end && e.message.empty();
+        && e.shown.empty() && !e.why && !e.location && !e.at_end && e.message.empty() && e.hint.empty();
 }
 
 void done() {
@@ -54,7 +54,7 @@ void done() {
 }
 
 void refused() {
-    const std::string bad = "%x = var\npc %z 1";
+    const std::string bad = "%val = var\npc %va 1";
     error e;
     std::string out = "before";
     std::vector<item> items(1);
@@ -63,14 +63,15 @@ void refused() {
     expect(!souper::try_format(kind::lhs, bad, out, e) && out.empty() && e.what == status::refused, "format", nullptr);
     const error wanted = e;
     expect(wanted.offset > 0 && wanted.line == 2 && wanted.column > 0
-               && wanted.shown == "unknown:2:4: unknown value '%z'\n     |\n   2 | pc %z 1\n     |    ^",
+               && wanted.shown == "unknown:2:4: unknown value '%va'\n     |\n   2 | pc %va 1\n     |    ^",
            "what a refusal shows", nullptr);
-    expect(wanted.message == "unknown value '%z'" && souper::to_string(wanted) == wanted.shown, "its message", nullptr);
-    expect(wanted.location == souper::location{12, 2, 4} && !wanted.at_end, "its location", nullptr);
+    expect(wanted.message == "unknown value '%va'" && souper::to_string(wanted) == wanted.shown, "its message", nullptr);
+    expect(wanted.location == souper::location{14, 2, 4} && !wanted.at_end, "its location", nullptr);
+    expect(wanted.hint == "did you mean '%val'?", "its hint", nullptr);
     const auto is_wanted = [&wanted](const error &got, unsigned input) {
         return got.what == wanted.what && got.input == input && got.index == 0 && got.offset == wanted.offset
             && got.line == wanted.line && got.column == wanted.column && got.shown == wanted.shown
-            && got.location == wanted.location && got.at_end == wanted.at_end && got.message == wanted.message;
+            && got.location == wanted.location && got.at_end == wanted.at_end && got.message == wanted.message && got.hint == wanted.hint;
     };
     expect(!souper::try_check(kind::lhs, bad, yes, e) && is_wanted(e, 0) && !yes, "check, refused", nullptr);
     expect(!souper::try_same(kind::lhs, bad, "", yes, e) && is_wanted(e, 0), "same, refused first", nullptr);

@@ -122,7 +122,7 @@ def trees(tarball, debian, wheel, crate):
 
 
 def symbols(tarball):
-    declared = sorted(re.findall(r"^SOUPER_CALL \w+ (souper_\w+)\(", (tarball / "include/souper.h").read_text(), re.MULTILINE))
+    declared = sorted(re.findall(r"^(?:SOUPER_CALL )?\w+ (souper_\w+)\(", (tarball / "include/souper.h").read_text(), re.MULTILINE))
     shared = tarball / "lib/libsouper_c.so"
     rows = [row.split() for row in printed("nm", "-D", "--defined-only", shared).splitlines()]
     holds("what the shared library exports", [f"{name}@@SOUPER_1" for name in declared], sorted(row[2] for row in rows if row[1] == "T"))

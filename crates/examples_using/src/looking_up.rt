@@ -26,6 +26,7 @@ pub fn store_of(alloc: Global, replacements: Vec<Replacement>) -> Result<Store, 
 mod tests {
     use super::*;
     use crate::reading::read_one;
+    use souper_ir::ast::Item;
     use souper_ir::parse::parse_replacements_str;
     use souper_lookup::find::find;
     use std::test::Fail;

@@ -4,8 +4,8 @@ use crate::fixtures::{
     Graph, equal, foreign_id, has_counts, is_not_displayed, is_text, item_is, number, typed,
 };
 use souper_graph::ast::{
-    AssignmentRhs, Attribute, BlockId, Id, Instruction, LeftHandSide, LeftHandSideBuilder, Phi,
-    Statement, ValueId,
+    AssignmentRhs, Attribute, BlockId, Id, Instruction, Item, LeftHandSide, LeftHandSideBuilder,
+    Phi, Statement, ValueId,
 };
 use souper_graph::stringify::TextError;
 use std::alloc::{AllocError, Global};

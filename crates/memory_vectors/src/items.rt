@@ -8,7 +8,7 @@ use anyhow::{Context, Result, bail};
 use souper_format::command::Kind;
 use souper_format::items::read_items;
 use souper_format::same::same;
-use souper_ir::ast::{Arena, Id, LeftHandSide, Replacement, Statement};
+use souper_ir::ast::{Arena, Id, Item, LeftHandSide, Replacement, Statement};
 use souper_ir::parse::{parse_left_hand_sides_str, parse_replacements_str};
 use souper_ir::stringify::{DisplayWithContext, Order, TextError};
 use std::alloc::{AllocError, Global};

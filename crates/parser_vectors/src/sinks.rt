@@ -29,7 +29,7 @@ impl<T: WholeItem + Drop> Sink<T> for Count {
 mod tests {
     use super::*;
     use crate::checks::{equal, is_text};
-    use souper_ir::ast::{LeftHandSide, Replacement, RightHandSide};
+    use souper_ir::ast::{Item, LeftHandSide, Replacement, RightHandSide};
     use souper_ir::parse::{ParseErrorKind, parse_into};
     use std::alloc::Global;
     use std::process::Abort;

@@ -15,10 +15,19 @@ ghost use Rattle.souper_calls.specs.Records.{RecordsTo, WritesRecordsTo};
 ghost use Rattle.souper_calls.specs.Answers.{WritesAnswerGroups, WritesRefusalOfOne, IsNoTextOfOne, IsShortFind};
 ghost use Rattle.souper_calls.specs.Locations.{HasNoLocation, LocatesFault};
 ghost use Rattle.souper_calls.specs.Cuts.{OfWholeLines, CutsLast, HasFirstSegment, HasBadStart};
+ghost use Rattle.souper_calls.specs.Hints.{WritesHint, IsShortHint};
 ghost use Rattle.souper_calls.specs.FlawAnswers.{answer_without, IsFlawAnswer};
 
 pub use souper_calls::{SouperFlaw, SouperLocation, SouperOutcome};
 use std::alloc::Global;
+
+/// The version of the library: 1,000,000 times the major number, 1,000 times the minor number, and the patch number.
+#[unsafe(no_mangle)]
+pub extern "C" fn souper_version() -> u32
+    ensures { result ≡ 1000000 }
+{
+    souper_calls::souper_version()
+}
 
 /// Writes the canonical text of each item that `text` spells, a newline after each, to the beginning of `out`.
 ///
@@ -208,6 +217,38 @@ pub extern "C" fn souper_locate(alloc: Global, kind: u32, text: &[u8]) -> Souper
     ensures no_location { (result.status ≡ 1) ⊎ HasNoLocation result }
 {
     souper_calls::souper_locate(alloc, kind, text)
+}
+
+/// Writes the hint for the parse error of `text` to the beginning of `out`: what its writer may have meant, in a line without its end.
+///
+/// The kinds are as for [`souper_format`]. `lines` is the number of lines before `text` in its input, which count in the hint too: 0 for a
+/// whole text. The status is
+///
+/// - 0: the text spells items of the kind.
+/// - 1, rejected: `out` begins with the hint, which has `length` bytes; 0 if there is none.
+/// - 2, 3 or 4, as for [`souper_format`].
+/// - 5: `out` is shorter than the hint, which has `length` bytes.
+///
+/// The rest of `out` is as it was, and if the status is not 1, all of it.
+#[unsafe(no_mangle)]
+pub extern "C" fn souper_hint(
+    alloc: Global,
+    kind: u32,
+    lines: usize,
+    text: &[u8],
+    out: &mut [u8],
+) -> SouperOutcome
+    ensures known { result.status ≤ 5 }
+    ensures spelled { result.status ≡ 0 → SpellsSome kind text.now × (out.new ≡ out.old) }
+    ensures hinted { result.status ≡ 1 → WritesHint kind text.now result out.old out.new }
+    ensures no_kind { (result.status ≡ 2) ↔ (type_of_number kind ≡ None) }
+    ensures no_text { (result.status ≡ 4) ↔ (IsKind kind × ¬ (IsUtf8 text.now)) }
+    ensures short { result.status ≡ 5 → IsShortHint kind text.now result out.old }
+    ensures kept { 2 ≤ result.status → out.new ≡ out.old }
+    ensures no_place { HasNoPlace result × (result.input ≡ 0) }
+    ensures no_length { (result.status ≡ 1) ⊎ (result.status ≡ 5) ⊎ (result.length ≡ 0) }
+{
+    souper_calls::souper_hint(alloc, kind, lines, text, out)
 }
 
 /// Whether two texts spell lists of one length, in which each item is the same graph as the one at its index in the

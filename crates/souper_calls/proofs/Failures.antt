@@ -1,13 +1,15 @@
 -- What a failure says of a text that a parser rejected.
-use Rattle.std.proofs.Common.{◌≡◌, ◌⊎◌, ℕ, ◌≤◌, List, [], Some, None, length, sym, ◌∙◌, subst, ap, refl, inl, inr, ◌<◌, arith}
-use Rattle.std.specs.Prelude.{string_bytes, IsSomeAnd}
+use Rattle.std.proofs.Common.{◌≡◌, ◌⊎◌, ℕ, ◌+◌, ◌≤◌, List, [], Option, Some, None, length, sym, ◌∙◌, subst, ap, refl, inl, inr, ◌<◌, arith}
+use Rattle.std.specs.Prelude.{string_bytes, IfSome, IsSomeAnd}
 use Rattle.std.proofs.lemmas.Bool.{cases_lt}
 use Rattle.souper_graph.specs.Syntax.Spelling.{ItemType, SpellsNone}
 use Rattle.souper_ir.specs.Laws.Peeks.{some_is}
 use Rattle.souper_ir.specs.Answers.{IsStrError}
-use Rattle.souper_errors.specs.Errors.{offset_of, line_of, column_of, shown_error, HasLocation, ShowsPlace, OnKind}
+use Rattle.souper_errors.specs.Errors.{kind_of, offset_of, line_of, column_of, shown_error, HasLocation, ShowsPlace, OnKind}
 use Rattle.souper_errors.specs.Places.{IsRefusalTextAt}
 use Rattle.souper_errors.specs.declared.error.ParseError.{ParseError}
+use Rattle.souper_errors.specs.declared.error.ParseErrorKind.{ParseErrorKind}
+use Rattle.souper_errors.specs.declared.error.ParseErrorKind.TheVariants.{Parse}
 use Rattle.souper_calls.specs.Kinds.{type_of_number}
 use Rattle.souper_calls.specs.Outcomes.{HasNoPlace, IsShortFor, FillsStart, WritesRefusal}
 use Rattle.souper_calls.specs.Failures.{IsFailure, IsFailureOf, outcome_of, short_outcome}
@@ -37,6 +39,21 @@ by_numbers k source e offset line column shown (found, at, within, none, p, loca
           (p.message, p.text, p.is_place, some_is (sym is_shown ∙ p.shown_is)))),
     )
 
+refusal_of : (k : ItemType) (source : List ℕ) (e : ParseError) → IsStrError k None source e → kind_of e ≡ Parse → IsRefusal k source e
+refusal_of k source e is kind = subst (λ (x : ParseErrorKind). OnKind x ⊥ (IsRefusal k source e) (Unit {0})) kind is
+
+-- its offset is within the source, which spells no items
+pub offset_within : (k : ItemType) (source : List ℕ) (e : ParseError) → IsStrError k None source e → kind_of e ≡ Parse → IfSome (offset_of e) (λ (n : ℕ). 0 + n ≤ length source)
+offset_within k source e is kind =
+    let (offset, is_offset, fits, none, shown, located) = refusal_of k source e is kind in
+    let within : 0 + offset ≤ length source = omega (arith, fits) in
+    subst (λ (o : Option ℕ). IfSome o (λ (n : ℕ). 0 + n ≤ length source)) (sym is_offset) within
+
+pub spells_none : (k : ItemType) (source : List ℕ) (e : ParseError) → IsStrError k None source e → kind_of e ≡ Parse → SpellsNone k source
+spells_none k source e is kind =
+    let (offset, is_offset, fits, none, shown, located) = refusal_of k source e is kind in
+    none
+
 -- what the failure for an error says is so of the source that the parser rejected
 pub of_error : (number : ℕ) (k : ItemType) (source : List ℕ) (e : ParseError) (f : Failure)
     → type_of_number number ≡ Some k → IsStrError k None source e → IsFailureOf e f → IsFailure number source f
@@ -44,7 +61,7 @@ of_error number k source e (Refused r) is_kind is (kind, offset, line, column, s
     subst (λ o. IsSomeAnd o (λ (k : ItemType). SpellsNone k source × (r.offset ≤ length source)
     × IsRefusalTextAt None source r.offset r.line r.column (string_bytes r.shown))) (sym is_kind)
     (by_numbers k source e r.offset r.line r.column (string_bytes r.shown)
-    (subst (λ kind. OnKind kind ⊥ (IsRefusal k source e) (Unit {0})) kind is) offset line column shown)
+    (refusal_of k source e is kind) offset line column shown)
 of_error number k source e OutOfMemory is_kind is _ = subst (λ o. IsSomeAnd o (λ (k : ItemType). Unit {0})) (sym is_kind) tt
 of_error number k source e NoKind is_kind is impossible = absurd impossible
 of_error number k source e NotUtf8 is_kind is impossible = absurd impossible

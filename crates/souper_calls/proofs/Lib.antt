@@ -4,4 +4,5 @@ pub mod Same
 pub mod Writing
 pub mod WholeLines
 pub mod Groups
+pub mod HintsWritten
 pub mod Failing

@@ -2,6 +2,7 @@ pub mod Kinds
 pub mod Outcomes
 pub mod Failures
 pub mod Locations
+pub mod Hints
 pub mod Records
 pub mod FlawAnswers
 pub mod Cuts

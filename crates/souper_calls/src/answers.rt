@@ -15,7 +15,7 @@ ghost use Rattle.souper_calls.specs.Failures.{IsFailure};
 ghost use Rattle.souper_calls.specs.declared.inputs.Failure.TheVariants.{NotUtf8};
 
 use crate::inputs::{Failure, failure_of, source_of};
-use souper_ir::ast::{Arena, LeftHandSide, Replacement, Statement};
+use souper_ir::ast::{Arena, Item, LeftHandSide, Replacement, Statement};
 use souper_ir::parse::{ParseError, Sink, WholeItem, parse_into};
 use souper_ir::stringify::TextError;
 use souper_lookup::find::find;

@@ -5,6 +5,7 @@ mod answers;
 mod codes;
 mod cuts;
 mod flaw;
+mod hints;
 mod inputs;
 mod location;
 mod outcome;
@@ -21,22 +22,27 @@ ghost use Rattle.souper_calls.specs.Records.{RecordsTo, WritesRecordsTo};
 ghost use Rattle.souper_calls.specs.Failures.{outcome_of, short_outcome, shown_of};
 ghost use Rattle.souper_calls.specs.Answers.{WritesAnswerGroups, WritesRefusalOfOne, IsNoTextOfOne, IsShortFind};
 ghost use Rattle.souper_calls.specs.FlawAnswers.{answer_without, IsFlawAnswer};
+ghost use Rattle.souper_calls.specs.Hints.{WritesHint, IsShortHint};
 
 use crate::answers::{answers_to, store_of};
 use crate::codes::code;
 pub use crate::cuts::{souper_first_segment, souper_last_cut};
 pub use crate::flaw::SouperFlaw;
 use crate::flaw::flaw_of_code;
-use crate::inputs::{Failure, canonical_text, items, read_kind};
+use crate::hints::hint_for;
+use crate::inputs::{Failure, canonical_text, items, kind_and_source, read_kind};
 pub use crate::location::{SouperLocation, souper_locate};
 pub use crate::outcome::SouperOutcome;
-use crate::outcome::{DIFFERENT, DONE, NO_FLAGS, NO_KIND, OUT_OF_MEMORY, SHORT};
+use crate::outcome::{DIFFERENT, DONE, NO_FLAGS, NO_KIND, OUT_OF_MEMORY, REFUSED, SHORT};
 use crate::records::{layout_of, records};
 use crate::texts::{outcome_of_stop, texts_of_code};
 use souper_format::command::Kind;
 use souper_format::same::same;
 use souper_ir::ast::{LeftHandSide, Replacement, RightHandSide};
 use std::alloc::Global;
+
+// 1,000,000 times the major number, 1,000 times the minor number, and the patch number.
+const VERSION: u32 = 1_000_000;
 
 // Writes the bytes to the beginning of the buffer, if it has the room.
 fn write(bytes: &[u8], outcome: SouperOutcome, out: &mut [u8]) -> SouperOutcome
@@ -217,6 +223,45 @@ pub fn souper_check(alloc: Global, kind: u32, text: &[u8]) -> SouperOutcome
             SouperOutcome::new(status, canonical.len())
         }
         Err(failure) => failure.outcome(0),
+    }
+}
+
+/// The version of the library: 1,000,000 times the major number, 1,000 times the minor number, and the patch number.
+pub fn souper_version() -> u32
+    ensures { result ≡ 1000000 }
+{
+    VERSION
+}
+
+/// Writes the hint for the parse error of `text` to the beginning of `out`: what its writer may have meant, in a line without its end.
+pub fn souper_hint(
+    alloc: Global,
+    kind: u32,
+    lines: usize,
+    text: &[u8],
+    out: &mut [u8],
+) -> SouperOutcome
+    ensures known { result.status ≤ 5 }
+    ensures spelled { result.status ≡ 0 → SpellsSome kind text.now × (out.new ≡ out.old) }
+    ensures hinted { result.status ≡ 1 → WritesHint kind text.now result out.old out.new }
+    ensures no_kind { (result.status ≡ 2) ↔ (type_of_number kind ≡ None) }
+    ensures no_text { (result.status ≡ 4) ↔ (IsKind kind × ¬ (IsUtf8 text.now)) }
+    ensures short { result.status ≡ 5 → IsShortHint kind text.now result out.old }
+    ensures kept { 2 ≤ result.status → out.new ≡ out.old }
+    ensures no_place { HasNoPlace result × (result.input ≡ 0) }
+    ensures no_length { (result.status ≡ 1) ⊎ (result.status ≡ 5) ⊎ (result.length ≡ 0) }
+{
+    let (kind, source) = match kind_and_source(kind, text) {
+        Ok(given) => given,
+        Err(failure) => return failure.outcome(0),
+    };
+    match hint_for(alloc, kind, lines, source) {
+        Ok(Some(hint)) => {
+            let outcome = SouperOutcome::new(REFUSED, hint.len());
+            write(hint.as_bytes(), outcome, out)
+        }
+        Ok(None) => SouperOutcome::new(DONE, 0),
+        Err(_) => SouperOutcome::new(OUT_OF_MEMORY, 0),
     }
 }
 

@@ -1,5 +1,5 @@
 -- Definitions. What each status of a run says of the store, of the stream and of the writers.
-use Rattle.std.specs.Prelude.{◌≡◌, ◌⊎◌, ℕ, ◌+◌, ◌^◌, ◌<◌, ◌≤◌, Bool, List, ◌++◌, length, Option, Some}
+use Rattle.std.specs.Prelude.{◌≡◌, ◌⊎◌, ℕ, ◌+◌, ◌^◌, ◌<◌, ◌≤◌, Bool, false, List, ◌++◌, length, Option, Some}
 use Rattle.std.specs.Io.KnownBytes.{Consumes}
 use Rattle.souper_graph.specs.Values.{Item}
 use Rattle.souper_graph.specs.Syntax.Spelling.{replacement, TextSpells}
@@ -9,13 +9,13 @@ use Rattle.souper_ir.specs.Stopping.{TextStops}
 use Rattle.souper_stream.specs.Parts.{EndsAfter}
 use Rattle.souper_stream.specs.Reading.{AreAll, NeverSpells}
 use Rattle.souper_format.specs.Reporting.{Reported}
-use Rattle.souper_format.specs.Streams.{Stream, IsGivenNothing}
+use Rattle.souper_format.specs.Streams.{Stream, IsGiven, IsGivenNothing}
 use Rattle.souper_lookup.specs.declared.store.Store.{Store}
 use Rattle.souper_lookup.specs.Stored.{Entry, AreAdded, Stores}
 use Rattle.souper_records.specs.Canonical.{IsWhole}
 use Rattle.souper_records.specs.Outcomes.{InputStream}
 use Rattle.souper_records.specs.declared.stop.ReadFault.{ReadFault}
-use Rattle.souper_records.specs.Reports.{IsRefusalLine, ReportedReadFault, ReportedMemory}
+use Rattle.souper_records.specs.Reports.{AreRefusalLines, hint_line, ReportedReadFault, ReportedMemory}
 use Rattle.souper_records.specs.Runs.{OnStatus, IsRun}
 use Rattle.souper_find.specs.declared.search.Choice.{Choice}
 use Rattle.souper_records.specs.declared.output.Output.{Output}
@@ -32,8 +32,16 @@ pub record IsFilled (entries : List Entry) (before after : Option (List ℕ)) (s
   pub added : AreAdded items entries now
   pub stores : Stores now store
 
+-- the line of the refusal of a stream of this name, and then that of a hint, if there is one
+abbrev pub AreUnfilledLines : Bool → List ℕ → ParseError → List ℕ → Type 0
+AreUnfilledLines last name e lines = (hint : Option (List ℕ)) × AreRefusalLines last name (record { error = e; hint = hint }) lines
+
+-- unless the writer has failed, the line of a hint was written to it, if there is one
+abbrev pub ReportedHint : Stream → Type 0
+ReportedHint err = err.failed ≡ false → (hint : Option (List ℕ)) × IsGiven err (hint_line hint)
+
 -- Whatever follows the text read, the stream of this name spells no replacements. The refusal has and shows its place in that text, says
--- where it is at fault and whether the segment ended there, and was reported, given whether the stream ends with the text up to the end of the refused segment.
+-- where it is at fault and whether the segment ended there, and was reported, with a hint or without, given whether the stream ends with the text up to the end of the refused segment.
 pub record IsUnfilled (name : List ℕ) (before after : Option (List ℕ)) (err : Stream) : Type 0 where
   pub read : List ℕ
   pub consumed : Consumes before after read
@@ -45,7 +53,7 @@ pub record IsUnfilled (name : List ℕ) (before after : Option (List ℕ)) (err 
   pub text : List ℕ
   pub last : Bool
   pub ends : EndsAfter before after text last
-  pub reported : Reported err (IsRefusalLine last name error)
+  pub reported : Reported err (AreUnfilledLines last name error)
 
 -- What the status of adding the replacements of a stream to a store says: 0, they were added, and nothing was reported; 1, the stream is
 -- refused, and that was reported; 2, a read failed or memory ran out, and that was reported.

@@ -4,6 +4,7 @@
 #![tactic(auto)]
 
 pub mod answers;
+mod hints;
 pub mod keyed;
 pub mod run;
 pub mod search;

@@ -8,6 +8,7 @@ ghost use Rattle.souper_records.specs.Outcomes.{input_stream};
 ghost use Rattle.souper_find.specs.Runs.{IsFillRun, IsFindRun, IsKeyedRun};
 
 use crate::answers::write_answers;
+use crate::hints::report_hint;
 use crate::keyed::write_keyed;
 use crate::search::Search;
 use souper_format::watched::Watched;
@@ -27,7 +28,7 @@ const CHUNK: usize = 65536;
 /// Adds the replacements of the stream to the store, and returns the status of the program.
 ///
 /// - 0: done, and nothing was written to `err`.
-/// - 1: the stream is refused. The refusal was written to `err`, and shows the name, and a newline.
+/// - 1: the stream is refused. The refusal was written to `err`, and shows the name, and a newline, and its hint, if there is one.
 /// - 2: a read failed, the input is not UTF-8, or memory ran out. A line that says so was written to `err`.
 ///
 /// After status 1 or 2 nothing is promised of the store. If a write to `err` fails, the status is the same.
@@ -44,7 +45,14 @@ pub fn fill_run<R: BufRead, E: Write>(
     let mut parts = ItemReader::new(alloc, CHUNK);
     match read_with::<Replacement, R, Store>(alloc, &mut parts, reader, Some(name), store) {
         Ok(()) => 0,
-        Err(error) => report_input(alloc, name, &error, &parts, err),
+        Err(error) => {
+            let status = report_input(alloc, name, &error, &parts, err);
+            if status != 1 {
+                return status;
+            }
+            report_hint(alloc, parts.part(), &error, err);
+            status
+        }
     }
 }
 

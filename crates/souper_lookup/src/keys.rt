@@ -10,7 +10,7 @@ ghost use Rattle.souper_graph.specs.LeftSides.{infer_of};
 ghost use Rattle.souper_lookup.specs.Stored.{key_of_left, IsLeftKey};
 
 use crate::names::{names_of, put_names};
-use souper_graph::ast::{LeftHandSide, Replacement};
+use souper_graph::ast::{Item, LeftHandSide, Replacement};
 use souper_graph::stringify::TextError;
 use std::alloc::Global;
 

@@ -30,7 +30,7 @@ world_may_be : (a : Item) (m : WidthMap) (x : World) → IsWorld value_inputs a 
 world_may_be a m x w = λ p n. statement_may_be (result_width m p) x p (slice_get a.statements p) (w p n)
 
 pub sound_for_values : (a : Item) (m : WidthMap) → Sound poison_inputs a m → Sound value_inputs a m
-sound_for_values a m s = λ x w h. s x (world_may_be a m x w) h
+sound_for_values a m s = (s.0, λ x w h. s.1 x (world_may_be a m x w) h)
 
 pub vacuous_for_values : (a : Item) (m : WidthMap) → Vacuous poison_inputs a m → Vacuous value_inputs a m
-vacuous_for_values a m v = λ x w h. v x (world_may_be a m x w) h
+vacuous_for_values a m v = (v.0, λ x w h. v.1 x (world_may_be a m x w) h)

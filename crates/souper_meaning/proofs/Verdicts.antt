@@ -7,8 +7,8 @@ use Rattle.souper_words.specs.declared.outcome.Outcome.{Outcome}
 use Rattle.souper_words.specs.declared.outcome.Outcome.TheVariants.{Number, Poison, Undefined}
 use Rattle.souper_meaning.specs.Worlds.{World, value_at, Mode, value_inputs, poison_inputs, IsInput, GivesStatement}
 use Rattle.souper_meaning.specs.Statements.{out}
-use Rattle.souper_meaning.specs.Sound.{MeetsStatement, MeetsFacts, RefinesEnding, Sound, Vacuous}
-use Rattle.souper_meaning.specs.Examples.{shifted, shifted_widths, doubled, either, either_widths, thawed, thawed_widths, overflowing, overflowing_widths, divided, divided_widths, contradicted, contradicted_widths, world_of, world_of_two}
+use Rattle.souper_meaning.specs.Sound.{MeetsStatement, MeetsFacts, RefinesEnding, IsHole, Sound, Vacuous}
+use Rattle.souper_meaning.specs.Examples.{shifted, shifted_widths, doubled, either, either_widths, thawed, thawed_widths, overflowing, overflowing_widths, divided, divided_widths, contradicted, contradicted_widths, holed, world_of, world_of_two}
 
 -- at every position, needed or not
 abbrev GivesAt : Mode → Item → WidthMap → World → ℕ → Type 0
@@ -30,7 +30,7 @@ shifted_meets (suc (suc zero)) = tt
 shifted_meets (suc (suc (suc p))) = tt
 
 pub shifted-unsound : ¬ Sound value_inputs shifted shifted_widths
-shifted-unsound s = s (world_of (Number 1)) (λ p n. shifted_gives p) (λ p n. shifted_meets p)
+shifted-unsound s = s.1 (world_of (Number 1)) (λ p n. shifted_gives p) (λ p n. shifted_meets p)
 
 either_gives : (p : ℕ) → GivesAt poison_inputs either either_widths (world_of_two (Number 1) Poison) p
 either_gives zero = lit< tt
@@ -47,7 +47,7 @@ either_meets (suc (suc (suc zero))) = tt
 either_meets (suc (suc (suc (suc p)))) = tt
 
 pub either-unsound : ¬ Sound poison_inputs either either_widths
-either-unsound s = s (world_of_two (Number 1) Poison) (λ p n. either_gives p) (λ p n. either_meets p)
+either-unsound s = s.1 (world_of_two (Number 1) Poison) (λ p n. either_gives p) (λ p n. either_meets p)
 
 thawed_gives : (p : ℕ) → GivesAt poison_inputs thawed thawed_widths (world_of Poison) p
 thawed_gives zero = tt
@@ -60,7 +60,7 @@ thawed_meets (suc zero) = tt
 thawed_meets (suc (suc p)) = tt
 
 pub thawed-unsound : ¬ Sound poison_inputs thawed thawed_widths
-thawed-unsound s = s (world_of Poison) (λ p n. thawed_gives p) (λ p n. thawed_meets p)
+thawed-unsound s = s.1 (world_of Poison) (λ p n. thawed_gives p) (λ p n. thawed_meets p)
 
 overflowing_gives : (p : ℕ) → GivesAt value_inputs overflowing overflowing_widths (world_of (Number 0)) p
 overflowing_gives zero = tt
@@ -73,7 +73,7 @@ overflowing_meets (suc zero) = tt
 overflowing_meets (suc (suc p)) = tt
 
 pub overflowing-unsound : ¬ Sound value_inputs overflowing overflowing_widths
-overflowing-unsound s = s (world_of (Number 0)) (λ p n. overflowing_gives p) (λ p n. overflowing_meets p)
+overflowing-unsound s = s.1 (world_of (Number 0)) (λ p n. overflowing_gives p) (λ p n. overflowing_meets p)
 
 divided_gives : (p : ℕ) → GivesAt value_inputs divided divided_widths (world_of (Number 0)) p
 divided_gives zero = lit< tt
@@ -90,7 +90,7 @@ divided_meets (suc (suc (suc zero))) = tt
 divided_meets (suc (suc (suc (suc p)))) = tt
 
 pub divided-unsound : ¬ Sound value_inputs divided divided_widths
-divided-unsound s = s (world_of (Number 0)) (λ p n. divided_gives p) (λ p n. divided_meets p)
+divided-unsound s = s.1 (world_of (Number 0)) (λ p n. divided_gives p) (λ p n. divided_meets p)
 
 -- the right side for each outcome of the input
 doubled_refines : (x : World) (o : Outcome) → value_at x 0 ≡ o → IsInput poison_inputs 8 o → RefinesEnding shifted_widths (out doubled shifted_widths x) doubled.ending
@@ -101,8 +101,14 @@ doubled_refines x Undefined e h = absurd h
 doubled_input : NeededIn doubled 0
 doubled_input = used (walked (inl refl)) (inl refl)
 
+doubled_no_hole : (p : ℕ) → ¬ IsHole (slice_get doubled.statements p)
+doubled_no_hole zero h = h
+doubled_no_hole (suc zero) h = h
+doubled_no_hole (suc (suc zero)) h = h
+doubled_no_hole (suc (suc (suc p))) h = h
+
 pub doubled-sound : Sound poison_inputs doubled shifted_widths
-doubled-sound x w h = doubled_refines x (value_at x 0) refl (w 0 doubled_input)
+doubled-sound = (λ p n. doubled_no_hole p, λ x w h. doubled_refines x (value_at x 0) refl (w 0 doubled_input))
 
 below_and_above : (n : ℕ) → (n + 255) % 256 < 9 → 128 ≤ n → n < 256 → ⊥
 below_and_above n h k l = omega arith
@@ -112,5 +118,15 @@ contradicted_by (Number n) h f = elim f.0 [ inl e ↦ absurd (omega (arith, e.0)
 contradicted_by Poison h f = h
 contradicted_by Undefined h f = h
 
+contradicted_no_hole : (p : ℕ) → ¬ IsHole (slice_get contradicted.statements p)
+contradicted_no_hole zero h = h
+contradicted_no_hole (suc p) h = h
+
 pub contradicted-vacuous : Vacuous value_inputs contradicted contradicted_widths
-contradicted-vacuous x w h = contradicted_by (value_at x 0) (w 0 (walked (inl refl))) (h 0 (walked (inl refl)))
+contradicted-vacuous = (λ p n. contradicted_no_hole p, λ x w h. contradicted_by (value_at x 0) (w 0 (walked (inl refl))) (h 0 (walked (inl refl))))
+
+pub holed-unsound : (mode : Mode) (m : WidthMap) → ¬ Sound mode holed m
+holed-unsound mode m s = s.0 0 (walked (inl refl)) tt
+
+pub holed-not-vacuous : (mode : Mode) (m : WidthMap) → ¬ Vacuous mode holed m
+holed-not-vacuous mode m v = v.0 0 (walked (inl refl)) tt

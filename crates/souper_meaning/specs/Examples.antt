@@ -1,7 +1,7 @@
 -- Definitions. Worked examples: items with their widths, and worlds.
 use Rattle.std.specs.Prelude.{ℕ, pos, negsuc, [], ◌∷◌, None, codes}
 use Rattle.souper_graph.specs.declared.ast.operands.Operand.TheVariants.{Value, Constant}
-use Rattle.souper_graph.specs.declared.ast.instructions.Instruction.TheVariants.{AddNsw, Mul, MulNsw, Udiv, And, Or, Shl, ShlNsw, Select, Freeze}
+use Rattle.souper_graph.specs.declared.ast.instructions.Instruction.TheVariants.{AddNsw, Mul, MulNsw, Udiv, And, Or, Shl, ShlNsw, Select, Freeze, Hole}
 use Rattle.souper_graph.specs.Values.{negative, range, var, block, phi, assigned, replaced, Item}
 use Rattle.souper_words.specs.declared.outcome.Outcome.{Outcome}
 use Rattle.souper_words.specs.declared.outcome.Outcome.TheVariants.{Number}
@@ -79,6 +79,13 @@ contradicted = record {
 
 abbrev pub contradicted_widths : WidthMap
 contradicted_widths = record { results = 8 ∷ []; operands = 0 ∷ []; root = 8 }
+
+-- %0 = hole, infer %0, result 5:i8
+abbrev pub holed : Item
+holed = record {
+  statements = define_by Hole ∷ [];
+  ending = replaced (record { value = 0; attributes = [] }) (typed_number 5 8);
+}
 
 -- the world of two inputs
 abbrev pub world_of_two : Outcome → Outcome → World

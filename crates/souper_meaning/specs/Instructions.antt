@@ -12,7 +12,7 @@ use Rattle.souper_words.specs.declared.words.Word.TheVariants.{Add as add_word, 
 use Rattle.souper_words.specs.Numbers.{bits_of}
 use Rattle.souper_words.specs.Words.{outcome}
 
--- a hole has no meaning
+-- a hole has no word
 abbrev pub meaning_of : Instruction → Option Word
 meaning_of (Add a b) = Some add_word
 meaning_of (AddNsw a b) = Some add_nsw_word
@@ -95,6 +95,7 @@ word_outcome x w v choice at (a ∷ b ∷ []) = outcome x w v choice (operand_ou
 word_outcome x w v choice at (a ∷ []) = outcome x w v choice (operand_outcome at (first_width x v) a) (Number 0) (Number 0)
 word_outcome x w v choice at [] = outcome x w v choice (Number 0) (Number 0) (Number 0)
 
+-- a hole has no meaning, and counts as undefined behaviour
 abbrev pub optional_word_outcome : Option Word → ℕ → ℕ → ℕ → (ℕ → Outcome) → List Operand → Outcome
 optional_word_outcome None w v choice at os = Undefined
 optional_word_outcome (Some x) w v choice at os = word_outcome x w v choice at os

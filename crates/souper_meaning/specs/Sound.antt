@@ -2,7 +2,8 @@
 use Rattle.std.specs.Prelude.{◌≡◌, ◌≢◌, ℕ, ◌⊎◌, List, Option, Some, None, slice_get, bit_and}
 use Rattle.std.specs.List.{AllByRecursion}
 use Rattle.souper_graph.specs.declared.ast.operands.Operand.{Operand}
-use Rattle.souper_graph.specs.Values.{PlainAttribute, PlainRhs, var, reserved_inst, reserved_const, PlainStatement, assigned, condition, block_condition, Ending, inferred, resulting, replaced, candidate, Item}
+use Rattle.souper_graph.specs.declared.ast.instructions.Instruction.TheVariants.{Hole}
+use Rattle.souper_graph.specs.Values.{PlainAttribute, PlainRhs, var, reserved_inst, reserved_const, instruction, PlainStatement, assigned, condition, block_condition, Ending, inferred, resulting, replaced, candidate, Item}
 use Rattle.souper_graph.specs.Uses.{NeededIn}
 use Rattle.souper_widths.specs.Maps.{WidthMap, result_width, operand_width}
 use Rattle.souper_words.specs.declared.outcome.Outcome.{Outcome}
@@ -51,17 +52,30 @@ Refines d Poison r = Unit {0}
 Refines d (Number m) (Number n) = bit_and m d ≡ bit_and n d
 Refines d (Number m) r = ⊥
 
--- the replaced root, the result and the attributes of the root
+-- the replaced root, the result and the attributes of the root; a left-hand or a right-hand side replaces nothing
 abbrev pub RefinesEnding : WidthMap → (ℕ → Outcome) → Ending → Type 0
-RefinesEnding m at (inferred i) = Unit {0}
-RefinesEnding m at (resulting r) = Unit {0}
+RefinesEnding m at (inferred i) = ⊥
+RefinesEnding m at (resulting r) = ⊥
 RefinesEnding m at (replaced i r) = Refines (wanted_bits m.root i.attributes) (at i.value) (operand_outcome at m.root r)
 RefinesEnding m at (candidate c) = Refines (wanted_bits m.root c.attributes) (operand_outcome at m.root c.lhs) (operand_outcome at m.root c.rhs)
 
--- in each world that meets the facts and conditions, the result refines the replaced root
-abbrev pub Sound : Mode → Item → WidthMap → Type 0
-Sound mode a m = (x : World) → IsWorld mode a m x → Meets a m x → RefinesEnding m (out a m x) a.ending
+abbrev pub IsHoleRhs : PlainRhs → Type 0
+IsHoleRhs (instruction Hole) = Unit {0}
+IsHoleRhs r = ⊥
 
--- no world meets them
+abbrev pub IsHole : Option PlainStatement → Type 0
+IsHole (Some (assigned a)) = IsHoleRhs a.value
+IsHole s = ⊥
+
+-- no needed statement is a hole, which has no meaning
+abbrev pub HasNoHole : Item → Type 0
+HasNoHole a = (p : ℕ) → NeededIn a p → ¬ IsHole (slice_get a.statements p)
+
+-- The item has no hole, and in each world that meets the facts and conditions, the result refines the replaced root. The map is to be the
+-- widths of the item.
+abbrev pub Sound : Mode → Item → WidthMap → Type 0
+Sound mode a m = HasNoHole a × ((x : World) → IsWorld mode a m x → Meets a m x → RefinesEnding m (out a m x) a.ending)
+
+-- it has no hole, and no world meets them
 abbrev pub Vacuous : Mode → Item → WidthMap → Type 0
-Vacuous mode a m = (x : World) → IsWorld mode a m x → ¬ Meets a m x
+Vacuous mode a m = HasNoHole a × ((x : World) → IsWorld mode a m x → ¬ Meets a m x)

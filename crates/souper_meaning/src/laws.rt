@@ -8,7 +8,7 @@ ghost use Rattle.souper_widths.specs.Maps.{WidthMap};
 ghost use Rattle.souper_graph.specs.WellFormed.{WellFormed};
 ghost use Rattle.souper_meaning.specs.Worlds.{World, Mode, value_inputs, poison_inputs};
 ghost use Rattle.souper_meaning.specs.Sound.{Refines, Sound, Vacuous};
-ghost use Rattle.souper_meaning.specs.Examples.{shifted, shifted_widths, doubled, either, either_widths, thawed, thawed_widths, overflowing, overflowing_widths, divided, divided_widths, contradicted, contradicted_widths, chosen, chosen_widths, world_of, reached_by};
+ghost use Rattle.souper_meaning.specs.Examples.{shifted, shifted_widths, doubled, either, either_widths, thawed, thawed_widths, overflowing, overflowing_widths, divided, divided_widths, contradicted, contradicted_widths, holed, chosen, chosen_widths, world_of, reached_by};
 
 /// An item's outcomes: 1 by -128 is -128, and 1 shifted by 7 is out of signed numbers.
 pub fn law_of_outcomes()
@@ -49,6 +49,12 @@ pub fn law_of_unsound_examples()
 pub fn law_of_sound_examples()
     ensures doubled { Sound poison_inputs doubled shifted_widths }
     ensures vacuous { Vacuous value_inputs contradicted contradicted_widths }
+{}
+
+/// A replacement that needs a hole has no meaning: it is neither sound nor vacuous.
+pub fn law_of_holes()
+    ensures unsound { (mode : Mode) (m : WidthMap) → ¬ Sound mode holed m }
+    ensures not_vacuous { (mode : Mode) (m : WidthMap) → ¬ Vacuous mode holed m }
 {}
 
 /// What is sound where inputs may be poison is sound where they are values, and so is what is vacuous. What is vacuous is sound.

@@ -13,8 +13,8 @@ use souper_widths::{Widths, WidthsError, widths};
 
 /// Writes the widths of an item into it, and returns them. After an error the item is as it was.
 ///
-/// Needed values and constants have their types then, in the `Complete` form as [`complete`] writes them. Names, uses,
-/// roots, attributes and statements that the item does not need stay.
+/// Needed values and constants have their types then, in the `Complete` form as [`complete`] writes them. Names, uses and
+/// statements that the item does not need stay; so do attributes, but for ends of ranges in the `Complete` form.
 ///
 /// Errors: those of [`widths`].
 pub fn write_widths<T: TypedItem>(item: &mut T, form: Form) -> Result<Widths, WidthsError>

@@ -1,7 +1,7 @@
 //! Each call from C with each of its statuses, but for out of memory.
 use souper_calls::{
-    SouperOutcome, souper_check, souper_find, souper_first_segment, souper_format, souper_key,
-    souper_last_cut, souper_read, souper_same, souper_write,
+    SouperOutcome, souper_check, souper_find, souper_first_segment, souper_format, souper_hint,
+    souper_key, souper_last_cut, souper_read, souper_same, souper_write,
 };
 use std::alloc::Global;
 use std::fmt::Debug;
@@ -66,6 +66,25 @@ fn code_is_written(rt: HostRuntime) {
     equal(&rt, out.get(..29), Some(result));
     let refused = souper_read(rt.alloc(), 2, b"result -2", &mut out);
     equal(&rt, (refused.status, refused.offset), (1, 0));
+}
+
+#[test]
+fn hints_are_written(rt: HostRuntime) {
+    let alloc = rt.alloc();
+    let mut out = [b'.'; ROOM];
+    let twice = b"%left = var\n%left = var\ninfer %left";
+    let hinted = souper_hint(alloc, 0, 3, twice, &mut out);
+    equal(&rt, hinted, plain(1, 28));
+    equal(&rt, out.get(..30), Some(b"'%left' is defined on line 4.."));
+    let short = souper_hint(alloc, 0, 0, twice, &mut out[..27]);
+    equal(&rt, short, plain(5, 28));
+    let without = souper_hint(alloc, 0, 0, b"infer %x", &mut out);
+    equal(&rt, without, plain(1, 0));
+    let spelled = souper_hint(alloc, 1, 0, b"result 1", &mut out);
+    equal(&rt, spelled, plain(0, 0));
+    equal(&rt, souper_hint(alloc, 3, 0, b"", &mut out), plain(2, 0));
+    let not_utf8 = souper_hint(alloc, 0, 0, b"\xff", &mut out);
+    equal(&rt, not_utf8, plain(4, 0));
 }
 
 // The code of the text, and from it the canonical text, a newline after it.

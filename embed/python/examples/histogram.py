@@ -32,7 +32,8 @@ def texts(kind: str, paths: Iterable[Path]) -> Counter[str]:
             records = souper.records(kind, path.read_bytes(), rename=True)
         except souper.Refused as refusal:
             _, line, column = refusal.location or (0, refusal.line, refusal.column)
-            sys.exit(shown(f"{path}:{line}:{column}: {refusal.message}"))
+            hint = f"\nhint: {shown(refusal.hint)}" if refusal.hint else ""
+            sys.exit(shown(f"{path}:{line}:{column}: {refusal.message}") + hint)
         found.update(record.text for record in records)
     return found
 

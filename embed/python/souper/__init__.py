@@ -54,7 +54,7 @@ the values, and `Builder`.
 **Streams.** ``stream(kind, file)`` gives the items of a binary file, which may be larger than memory,
 one by one, and a `Reader` those of what is pushed to it part by part.
 
-**Errors.** `Refused`, with its `Location`, if a text is invalid, `UnicodeError` if it is not UTF-8,
+**Errors.** `Refused`, with its `Location` and hint, if a text is invalid, `UnicodeError` if not UTF-8,
 `NotWellFormed`, with the item's first `Flaw`, if an item has no canonical text, `NoCode` if bytes
 are the code of no items; these are `ValueError`. `MemoryError` if an allocation fails. What only a
 newer library knows is ``unknown(N)``: a reason of a flaw, or a status, which is a `RuntimeError`.
@@ -68,8 +68,8 @@ from __future__ import annotations
 from types import FunctionType
 
 from ._builder import Builder
-from ._calls import Record, canonical, check, find, format, key, keys, read, record_text, records
-from ._calls import same, write
+from ._calls import Record, canonical, check, find, format, key, keys, library_version
+from ._calls import read, record_text, records, same, write
 from ._code import encode
 from ._decoder import decode
 from ._errors import Flaw, FlawReason, Location, NoCode, NotUtf8, NotWellFormed, Refused
@@ -166,6 +166,7 @@ __all__ = [
     "format",
     "key",
     "keys",
+    "library_version",
     "read",
     "record_text",
     "records",

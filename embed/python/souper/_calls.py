@@ -47,15 +47,22 @@ def _line_at(data: bytes, offset: int) -> str:
     return line.decode()
 
 
+def hint(kind: Kind, lines: int, data: bytes) -> str | None:
+    """The hint for a refused text after so many lines. `None` also if memory ran out for it."""
+    outcome, out = _written(_library.LIBRARY.souper_hint, (NUMBERS[kind], lines), data, 256)
+    return out.decode() or None if outcome.status == REFUSED else None
+
+
 def _refused(kind: Kind, outcome: Outcome, data: bytes, shown: bytes) -> Refused:
     numbers = (outcome.offset, outcome.line, outcome.column, outcome.input)
-    refusal = Refused(shown.decode(), *numbers)
+    meant = hint(kind, 0, data)
+    refusal = Refused(shown.decode(), *numbers, hint=meant)
     found = _library.LIBRARY.souper_locate(NUMBERS[kind], data, len(data))
     if found.status != REFUSED:
         return refusal
     location = Location(found.offset, found.line, found.column)
     located = four_lines(refusal.message, *location[1:], _line_at(data, location.offset))
-    return Refused(located, *numbers, location, found.at_end == 1)
+    return Refused(located, *numbers, location, found.at_end == 1, meant)
 
 
 def _failure(kind: Kind, outcome: Outcome, data: bytes, shown: bytes) -> Exception:
@@ -183,6 +190,12 @@ def format(kind: Kind | str, text: str | bytes) -> str:
     if outcome.status != DONE:
         raise _failure(kind, outcome, data, out)
     return out.decode()
+
+
+def library_version() -> int:
+    """The version of the library that is loaded, as a number: 1,002,003 is 1.2.3."""
+    version: int = _library.LIBRARY.souper_version()
+    return version
 
 
 def check(kind: Kind | str, text: str | bytes) -> bool:

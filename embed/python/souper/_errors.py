@@ -43,6 +43,7 @@ class Refused(ValueError):
     message: why, alone.
     location: where the text is at fault; `None` if memory ran out for it.
     at_end: whether the text ended where more is wanted; `False` without a location.
+    hint: what the writer may have meant, for a person, in one line; `None` if there is no hint.
     input: which text of the call was refused: 0 the first, 1 the second.
     offset: the number of bytes before the error.
     line: the line of the last of these bytes, or of the first byte if there is none; from 1.
@@ -60,6 +61,7 @@ class Refused(ValueError):
         input: int = 0,
         location: Location | None = None,
         at_end: bool = False,
+        hint: str | None = None,
     ) -> None:
         super().__init__(shown, offset, line, column, input)
         self.shown = shown
@@ -69,6 +71,7 @@ class Refused(ValueError):
         self.input = input
         self.location = location
         self.at_end = at_end
+        self.hint = hint
 
     @property
     def message(self) -> str:

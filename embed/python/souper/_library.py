@@ -70,6 +70,7 @@ class LocationNumbers(ctypes.Structure):
 _BYTES = [ctypes.c_char_p, ctypes.c_size_t]
 _ROOM = [ctypes.POINTER(ctypes.c_char), ctypes.c_size_t]
 SIGNATURES: dict[str, list[Any]] = {
+    "souper_version": [],
     "souper_format": [ctypes.c_uint32, *_BYTES, *_ROOM],
     "souper_read": [ctypes.c_uint32, *_BYTES, *_ROOM],
     "souper_write": [ctypes.c_uint32, *_BYTES, *_ROOM],
@@ -79,11 +80,12 @@ SIGNATURES: dict[str, list[Any]] = {
     "souper_find": [*_BYTES, *_BYTES, *_ROOM],
     "souper_flaw": [ctypes.c_uint32, *_BYTES],
     "souper_locate": [ctypes.c_uint32, *_BYTES],
+    "souper_hint": [ctypes.c_uint32, ctypes.c_size_t, *_BYTES, *_ROOM],
     "souper_last_cut": [ctypes.c_uint32, *_BYTES],
     "souper_first_segment": [ctypes.c_uint32, *_BYTES],
 }
 # What a function returns that is no `Outcome`.
-_RESULTS: dict[str, Any] = {"souper_flaw": FlawNumbers, "souper_locate": LocationNumbers}
+_RESULTS: dict[str, Any] = {"souper_version": ctypes.c_uint32, "souper_flaw": FlawNumbers, "souper_locate": LocationNumbers}
 
 
 def _load() -> ctypes.CDLL:

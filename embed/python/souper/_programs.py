@@ -20,11 +20,12 @@ from ._values import Kind
 INVALID, FAILED, INTERRUPTED, NOBODY_READS = 1, 2, 130, 141
 
 class Failure(Exception):
-    """Why a program ends: a message and its status."""
+    """Why a program ends: a message and its status; of a parse error also the hint."""
 
-    def __init__(self, message: str, status: int = FAILED) -> None:
+    def __init__(self, message: str, status: int = FAILED, hint: str | None = None) -> None:
         super().__init__(message)
         self.status = status
+        self.hint = hint
 
 
 def name(module: str) -> str:
@@ -64,8 +65,8 @@ def source(path: str | None) -> tuple[str, bytes]:
 
 
 def invalid(name: str, refusal: Refused) -> Failure:
-    """The four lines of a parse error, with the name of the file."""
-    return Failure(name + refusal.shown.removeprefix("unknown"), INVALID)
+    """The four lines of a parse error, with the name of the file, and its hint."""
+    return Failure(name + refusal.shown.removeprefix("unknown"), INVALID, refusal.hint)
 
 
 def not_utf8(name: str, error: UnicodeDecodeError) -> Failure:
@@ -81,6 +82,8 @@ def run(module: str, main: Callable[[], None]) -> None:
     except Failure as failure:
         if failure.status == INVALID:
             _say(str(failure), _terminal.parse_error)
+            if failure.hint is not None:
+                _say(f"hint: {failure.hint}")
         else:
             _say(f"{program}: {failure}")
         sys.exit(failure.status)

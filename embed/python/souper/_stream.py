@@ -7,7 +7,7 @@ from collections.abc import Callable, Iterator
 from typing import BinaryIO, NoReturn
 
 from . import _library
-from ._calls import read
+from ._calls import hint, read
 from ._checks import check_type
 from ._errors import Location, NotUtf8, Refused, four_lines
 from ._library import DONE, NOT_UTF8, NUMBERS, Outcome
@@ -27,8 +27,8 @@ class Reader:
     memory are what was pushed since the last cut, which is an unfinished segment, and the items of
     the segments that were cut last.
 
-    An invalid segment gives no items. It raises `Refused`, with its place and `Location` in the
-    stream, and the next call of `next` reads on after it. With `refused` that function is called
+    An invalid segment gives no items. It raises `Refused`, with its place, `Location` and hint in
+    the stream, and the next call of `next` reads on after it. With `refused` that function is called
     with the exception instead, and reading resumes. At bytes that are not UTF-8 it raises
     `NotUtf8`, after the segments before them, and is at its end.
 
@@ -152,7 +152,7 @@ class Reader:
         try:
             items = read(self._kind, text)
         except Refused as refusal:
-            placed = self._placed(refusal)
+            placed = self._placed(refusal, text)
             self._pass(text, [])
             raise placed from None
         self._pass(text, items)
@@ -203,9 +203,11 @@ class Reader:
             status = _library.unknown(outcome.status)
             raise RuntimeError(f"the library returned the status {status}")
 
-    def _placed(self, refusal: Refused) -> Refused:
-        """The refusal of a segment, with its place and its location in the stream."""
-        at = refusal.location
+    def _placed(self, refusal: Refused, text: bytes) -> Refused:
+        """The refusal of a segment, with its place, its location and its hint in the stream."""
+        at, meant = refusal.location, refusal.hint
+        if meant is not None and self._lines:
+            meant = hint(self._kind, self._lines, text)
         source = refusal.shown.rsplit("\n", 2)[1].partition(" | ")[2]
         number, column = refusal.line + self._lines, refusal.column
         if refusal.offset == 0 and self._bytes:
@@ -218,7 +220,7 @@ class Reader:
         place = at[1:] if at is not None else (number, column)
         shown = four_lines(refusal.message, *place, source)
         offset = refusal.offset + self._bytes
-        return Refused(shown, offset, number, column, refusal.input, at, refusal.at_end)
+        return Refused(shown, offset, number, column, refusal.input, at, refusal.at_end, meant)
 
 
 class _Ready(Iterator[Item]):

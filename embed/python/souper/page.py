@@ -118,6 +118,7 @@ def _error(refusal: Refused, text: str) -> Json:
     before = text.encode()[: at.offset].decode(errors="ignore")
     return {
         "message": refusal.message,
+        "hint": refusal.hint,
         "line": at.line,
         "column": at.column,
         "source": line.removesuffix("\r"),

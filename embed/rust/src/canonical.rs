@@ -64,6 +64,7 @@ pub struct Refusal {
     input: usize,
     location: Option<Location>,
     at_end: bool,
+    hint: Option<String>,
 }
 
 impl Refusal {
@@ -123,13 +124,28 @@ impl Refusal {
         self.at_end
     }
 
+    /// What the writer may have meant, for a person, in one line. `None` if there is no hint.
+    ///
+    /// ```
+    /// use souper_ir::canonical::{format, Error, Kind};
+    ///
+    /// let Err(Error::Refused(refusal)) = format(Kind::Lhs, "%sum = var  infer %sun") else { panic!("%sun is unknown") };
+    /// assert_eq!(refusal.hint(), Some("did you mean '%sum'?"));
+    /// ```
+    pub fn hint(&self) -> Option<&str> {
+        self.hint.as_deref()
+    }
+
     /// Which text of the call was refused: 0 for the first, 1 for the second.
     pub fn input(&self) -> usize {
         self.input
     }
 
-    // Gives the refusal of a segment its place and its location in the stream.
-    pub(crate) fn place(&mut self, before: &Before) {
+    // Gives the refusal of a segment its place, its location and its hint in the stream.
+    pub(crate) fn place(&mut self, before: &Before, kind: Kind, segment: &[u8]) {
+        if before.lines > 0 && self.hint.is_some() {
+            self.hint = hint(kind, before.lines, segment);
+        }
         let last_line = String::from_utf8_lossy(&before.last_line);
         let (Some((message, text)), Some((_, mut text_before))) =
             (parts(&self.shown), parts(&self.original))
@@ -254,6 +270,11 @@ impl From<Refusal> for Error {
     fn from(refusal: Refusal) -> Self {
         Error::Refused(refusal)
     }
+}
+
+/// The version of the library that is linked, as a number: 1,002,003 is 1.2.3.
+pub fn library_version() -> u32 {
+    raw::library_version()
 }
 
 /// The canonical text of each item that the text spells, a newline after each.
@@ -447,6 +468,13 @@ fn string(bytes: Vec<u8>) -> String {
     String::from_utf8(bytes).expect("the library writes UTF-8")
 }
 
+// The hint for a refused text after so many lines. `None` also if memory ran out for it.
+fn hint(kind: Kind, lines: usize, text: &[u8]) -> Option<String> {
+    let mut out = Vec::new();
+    let outcome = raw::call(Call::Hint(lines), kind, text, 256, &mut out);
+    (outcome.status == raw::REFUSED && !out.is_empty()).then(|| string(out))
+}
+
 // The error of a text that was refused with that outcome.
 fn refused(kind: Kind, text: &str, outcome: &Outcome, original: String) -> Error {
     let found = raw::locate(kind, text);
@@ -470,5 +498,6 @@ fn refused(kind: Kind, text: &str, outcome: &Outcome, original: String) -> Error
         input: outcome.input as usize,
         location,
         at_end: found.at_end != 0,
+        hint: hint(kind, 0, text.as_bytes()),
     })
 }

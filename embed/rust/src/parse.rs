@@ -73,6 +73,11 @@ impl ParseError {
         self.refusal()?.location()
     }
 
+    /// What the writer of the text may have meant: [`Refusal::hint`].
+    pub fn hint(&self) -> Option<&str> {
+        self.refusal()?.hint()
+    }
+
     /// Whether the text ended where more is wanted: [`Refusal::is_at_end`]. False also if a file could not be read, or if memory
     /// ran out.
     pub fn is_at_end(&self) -> bool {

@@ -46,6 +46,7 @@ pub(crate) struct Location {
 }
 
 extern "C" {
+    fn souper_version() -> u32;
     fn souper_format(kind: u32, text: *const u8, n: usize, out: *mut u8, room: usize) -> Outcome;
     fn souper_read(kind: u32, text: *const u8, n: usize, out: *mut u8, room: usize) -> Outcome;
     fn souper_write(kind: u32, code: *const u8, n: usize, out: *mut u8, room: usize) -> Outcome;
@@ -69,6 +70,14 @@ extern "C" {
     ) -> Outcome;
     fn souper_flaw(kind: u32, code: *const u8, n: usize) -> Flaw;
     fn souper_locate(kind: u32, text: *const u8, n: usize) -> Location;
+    fn souper_hint(
+        kind: u32,
+        lines: usize,
+        text: *const u8,
+        n: usize,
+        out: *mut u8,
+        room: usize,
+    ) -> Outcome;
     fn souper_last_cut(kind: u32, text: *const u8, n: usize) -> Outcome;
     fn souper_first_segment(kind: u32, text: *const u8, n: usize) -> Outcome;
 }
@@ -83,6 +92,8 @@ pub(crate) enum Call<'a> {
     Key(u32),
     /// In this store; the kind is that of the queries.
     Find(&'a str),
+    /// After so many lines.
+    Hint(usize),
 }
 
 // A buffer that has more room than this, in bytes, is not kept.
@@ -138,6 +149,7 @@ fn once(call: Call<'_>, kind: Kind, input: &[u8], room: usize, out: &mut Vec<u8>
             Call::Write => souper_write(kind, input, n, to, room),
             Call::Key(flags) => souper_key(kind, flags, input, n, to, room),
             Call::Find(store) => souper_find(store.as_ptr(), store.len(), input, n, to, room),
+            Call::Hint(lines) => souper_hint(kind, lines, input, n, to, room),
         }
     };
     if outcome.status == DONE || outcome.status == REFUSED {
@@ -146,6 +158,11 @@ fn once(call: Call<'_>, kind: Kind, input: &[u8], room: usize, out: &mut Vec<u8>
         unsafe { out.set_len(outcome.length) }
     }
     outcome
+}
+
+pub(crate) fn library_version() -> u32 {
+    // SAFETY: the call has no arguments.
+    unsafe { souper_version() }
 }
 
 pub(crate) fn check(kind: Kind, text: &str) -> Outcome {

@@ -356,7 +356,8 @@ impl<T: Item> Reader<T> {
         let left = self.rejected - segment.length;
         let read = self.read_text(segment.length);
         if let Err(Error::Refused(mut refusal)) = read {
-            refusal.place(&self.before);
+            let text = &self.buffer[self.start..][..segment.length];
+            refusal.place(&self.before, T::KIND, text);
             self.pass(segment.length, Vec::new());
             self.rejected = left;
             return Err(Error::Refused(refusal));

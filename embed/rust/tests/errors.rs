@@ -3,7 +3,7 @@ mod common;
 
 use common::records;
 use souper_ir::ast::LeftHandSide;
-use souper_ir::canonical::{check, format, key, same, Error, Kind, Location, Record, Refusal};
+use souper_ir::canonical::{check, format, key, library_version, same, Error, Kind, Location, Record, Refusal};
 use souper_ir::parse::{
     parse_left_hand_sides_file, parse_left_hand_sides_str, parse_replacements_file,
     parse_replacements_str, parse_right_hand_sides_file, parse_right_hand_sides_str, ParseError,
@@ -26,6 +26,15 @@ impl Drop for File {
     fn drop(&mut self) {
         std::fs::remove_file(&self.0).unwrap();
     }
+}
+
+#[test]
+fn the_library_has_the_version_of_the_crate() {
+    let part = |text: &str| text.parse::<u32>().unwrap();
+    let version = part(env!("CARGO_PKG_VERSION_MAJOR")) * 1_000_000
+        + part(env!("CARGO_PKG_VERSION_MINOR")) * 1_000
+        + part(env!("CARGO_PKG_VERSION_PATCH"));
+    assert_eq!(library_version(), version);
 }
 
 #[test]
@@ -97,6 +106,48 @@ fn a_text_is_located_where_the_token_at_fault_begins() {
     }
 }
 
+// Each call has that hint, and shows none.
+fn is_hinted(kind: Kind, text: &str, hint: Option<&str>) {
+    let error = parse_error(kind, text);
+    assert_eq!(error.hint(), hint, "{text}");
+    assert!(!error.to_string().contains("hint"));
+    for error in [
+        format(kind, text).unwrap_err(),
+        key(kind, text, Record::default()).unwrap_err(),
+        check(kind, text).unwrap_err(),
+        same(kind, text, "x").unwrap_err(),
+        same(kind, "", text).unwrap_err(),
+        code::read(kind, text).unwrap_err(),
+    ] {
+        let Error::Refused(refusal) = error else {
+            panic!("{error}")
+        };
+        assert_eq!(refusal.hint(), hint, "{text}");
+        assert!(!refusal.to_string().contains("hint"));
+    }
+}
+
+#[test]
+fn a_text_may_have_a_hint() {
+    let text = "%x = var\n%y = ad %x, 1\ninfer %y";
+    is_hinted(Kind::Lhs, text, Some("did you mean 'add'?"));
+    is_hinted(
+        Kind::Rhs,
+        "%x = var\nreslt %x",
+        Some("did you mean 'result'?"),
+    );
+    is_hinted(Kind::Rep, "cnd 1 2", Some("did you mean 'cand'?"));
+    let text = "%left = var\n%left = var\ninfer %left\n";
+    is_hinted(Kind::Lhs, text, Some("'%left' is defined on line 1"));
+    let text = "%x = var\n";
+    is_hinted(
+        Kind::Lhs,
+        text,
+        Some("the 'infer' line is missing at the end"),
+    );
+    is_hinted(Kind::Lhs, "%x = var\ninfer %y", None);
+}
+
 #[test]
 fn a_text_that_ends_early_is_located_at_its_end_without_white_space() {
     for text in [
@@ -162,7 +213,7 @@ fn a_file_that_is_not_there_is_an_io_error() {
     ] {
         assert_eq!(error.to_string(), format!("IO error: {expected}"));
         assert!(error.refusal().is_none());
-        assert!(error.location().is_none() && !error.is_at_end());
+        assert!(error.location().is_none() && !error.is_at_end() && error.hint().is_none());
     }
 }
 

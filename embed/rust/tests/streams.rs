@@ -224,12 +224,35 @@ fn refusals_are_those_of_the_whole_text() {
             };
             // The first invalid segment may end before the whole text is at fault.
             if found.location() == wanted.location() {
-                assert_eq!(found, wanted);
+                let wanted = event::<LeftHandSide>(Err(wanted.into()));
+                assert_eq!(event::<LeftHandSide>(Err(found.into())), wanted);
                 same += 1;
             }
         }
     }
     assert!(same > texts.len() / 2);
+}
+
+// The lines of a hint are those of the stream.
+#[test]
+fn hints() {
+    let text = "%x = var\ninfer %x\n\n%left = var\n%left = var\ninfer %left\n%y = ad 1, 2\ninfer %y\n%x = var\ninfer %y\n";
+    for mut reader in [Reader::<LeftHandSide>::new(), Reader::by_segments()] {
+        reader.push(text.as_bytes()).unwrap();
+        reader.finish();
+        assert!(matches!(reader.next(), Some(Ok(_))));
+        for hint in [
+            Some("'%left' is defined on line 4"),
+            Some("did you mean 'add'?"),
+            None,
+        ] {
+            let Some(Err(Error::Refused(refusal))) = reader.next() else {
+                panic!("it is refused")
+            };
+            assert_eq!(refusal.hint(), hint);
+        }
+        assert!(reader.next().is_none());
+    }
 }
 
 #[test]

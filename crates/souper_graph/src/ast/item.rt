@@ -34,8 +34,8 @@ use std::alloc::AllocError;
 
 /// A left-hand side, a right-hand side or a replacement, for functions that take any of them.
 ///
-/// The calls are those that the types themselves have, and besides `statements`, `statements_mut`, `roots` and
-/// `well_formed_text`.
+/// `to_text`, `print_order`, `is_well_formed`, `renamed`, `replace_uses` and `parts` are the calls that the types themselves have. The
+/// others need this trait in scope.
 pub trait Item {
     ghost item_type: { ItemType };
 
@@ -80,7 +80,9 @@ pub trait Item {
         self.parts().print_order()
     }
 
-    /// The printed order in the memory of an earlier one, as [`LeftHandSide::print_order_into`] returns it.
+    /// The order that `print_order` returns, in the memory of an earlier one.
+    ///
+    /// Fails like `print_order`. After an error `order` is empty, and its memory is given back.
     fn print_order_into(&self, order: &mut Order) -> Result<(), TextError>
         ensures refused { IfErr result (λ error. IsFaultOf (view self.now) error) }
         ensures ordered { OnOk result (IsPrintOrder (view self.now) order.new.ids.items order.new.lead order.new.turns) }
@@ -89,7 +91,9 @@ pub trait Item {
         self.parts().print_order_into(order)
     }
 
-    /// Appends the canonical text to `out`, as [`LeftHandSide::append_text`] does.
+    /// Appends to `out` the canonical text that `to_text` returns.
+    ///
+    /// Fails like `to_text`, and then leaves `out` unchanged.
     fn append_text(&self, out: &mut String) -> Result<(), TextError>
         ensures refused { IfErr result (λ error. IsFaultOf (view self.now) error) }
         ensures appended { OnOk result (AppendsItemText item_type (view self.now) (string_bytes out.old) (string_bytes out.new)) }
@@ -143,7 +147,9 @@ pub trait Item {
         self.parts().is_well_formed()
     }
 
-    /// The first flaw, or `None` if the item is well formed, as [`LeftHandSide::flaw`] returns it.
+    /// The first flaw, or `None` if the item [is well formed](Replacement::is_well_formed).
+    ///
+    /// The error is out of memory.
     fn flaw(&self) -> Result<Option<Flaw>, AllocError>
         ensures none { IfOk result (λ found. IsNone found ↔ WellFormed (view self.now)) }
         ensures first { IfOk result (λ found. IfSome found (IsFirstFlaw (view self.now))) }

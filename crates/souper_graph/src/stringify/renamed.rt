@@ -29,17 +29,6 @@ impl LeftHandSide {
             infer: self.infer.clone()?,
         })
     }
-
-    /// Names the statements of the text as [`renamed`](Self::renamed) names those of its copy.
-    ///
-    /// Fails like [`print_order`](Self::print_order). After an error some names may be others. The buffers of the names stay.
-    pub fn rename(&mut self) -> Result<(), TextError>
-        ensures refused { IfErr result (λ error. IsFaultOf (view_left_hand_side self.old) error) }
-        ensures named { OnOk result (IsRenamed (view_left_hand_side self.old) (view_left_hand_side self.new)) }
-    {
-        let order = self.print_order()?;
-        write_names(&mut self.statements, &order.ids)
-    }
 }
 
 impl RightHandSide {
@@ -54,17 +43,6 @@ impl RightHandSide {
             statements: self.parts().renamed_statements()?,
             result: self.result,
         })
-    }
-
-    /// Names the statements of the text as [`renamed`](Self::renamed) names those of its copy.
-    ///
-    /// Fails like [`print_order`](Self::print_order). After an error some names may be others. The buffers of the names stay.
-    pub fn rename(&mut self) -> Result<(), TextError>
-        ensures refused { IfErr result (λ error. IsFaultOf (view_right_hand_side self.old) error) }
-        ensures named { OnOk result (IsRenamed (view_right_hand_side self.old) (view_right_hand_side self.new)) }
-    {
-        let order = self.print_order()?;
-        write_names(&mut self.statements, &order.ids)
     }
 }
 
@@ -88,20 +66,6 @@ impl Replacement {
                 cand: cand.clone()?,
             },
         })
-    }
-
-    /// Names the statements of the text as [`renamed`](Self::renamed) names those of its copy.
-    ///
-    /// Fails like [`print_order`](Self::print_order). After an error some names may be others. The buffers of the names stay.
-    pub fn rename(&mut self) -> Result<(), TextError>
-        ensures refused { IfErr result (λ error. IsFaultOf (view_replacement self.old) error) }
-        ensures named { OnOk result (IsRenamed (view_replacement self.old) (view_replacement self.new)) }
-    {
-        let order = self.print_order()?;
-        match self {
-            Replacement::LhsRhs { statements, .. } => write_names(statements, &order.ids),
-            Replacement::Cand { statements, .. } => write_names(statements, &order.ids),
-        }
     }
 }
 

@@ -78,17 +78,6 @@ impl Parts<'_> {
 }
 
 impl LeftHandSide {
-    /// Appends to `out` the canonical text that [`LeftHandSide::to_text`] returns.
-    ///
-    /// Fails like `to_text`, and then leaves `out` unchanged.
-    pub fn append_text(&self, out: &mut String) -> Result<(), TextError>
-        ensures refused { IfErr result (λ error. IsFaultOf (view_left_hand_side self.now) error) }
-        ensures appended { OnOk result (AppendsItemText left_hand_side (view_left_hand_side self.now) (string_bytes out.old) (string_bytes out.new)) }
-        ensures kept { OnErr result (string_bytes out.new ≡ string_bytes out.old) }
-    {
-        self.parts().append_text(out)
-    }
-
     /// The canonical text: the needed statements in printed order, a line each, and the infer line.
     ///
     /// Needed are the root and the path conditions, and all that these use. The text ends in a newline. If a needed
@@ -106,17 +95,6 @@ impl LeftHandSide {
 }
 
 impl RightHandSide {
-    /// Appends to `out` the canonical text that [`RightHandSide::to_text`] returns.
-    ///
-    /// Fails like `to_text`, and then leaves `out` unchanged.
-    pub fn append_text(&self, out: &mut String) -> Result<(), TextError>
-        ensures refused { IfErr result (λ error. IsFaultOf (view_right_hand_side self.now) error) }
-        ensures appended { OnOk result (AppendsItemText right_hand_side (view_right_hand_side self.now) (string_bytes out.old) (string_bytes out.new)) }
-        ensures kept { OnErr result (string_bytes out.new ≡ string_bytes out.old) }
-    {
-        self.parts().append_text(out)
-    }
-
     /// The canonical text: the needed statements in printed order, a line each, and the result line without a newline.
     ///
     /// Needed are the root and the path conditions, and all that these use. Fails like
@@ -130,17 +108,6 @@ impl RightHandSide {
 }
 
 impl Replacement {
-    /// Appends to `out` the canonical text that [`Replacement::to_text`] returns.
-    ///
-    /// Fails like `to_text`, and then leaves `out` unchanged.
-    pub fn append_text(&self, out: &mut String) -> Result<(), TextError>
-        ensures refused { IfErr result (λ error. IsFaultOf (view_replacement self.now) error) }
-        ensures appended { OnOk result (AppendsItemText replacement (view_replacement self.now) (string_bytes out.old) (string_bytes out.new)) }
-        ensures kept { OnErr result (string_bytes out.new ≡ string_bytes out.old) }
-    {
-        self.parts().append_text(out)
-    }
-
     /// The canonical text: the needed statements in printed order, a line each, and the cand line; or the infer line
     /// after the statements that it and the path conditions need, and the result line at the end.
     ///

@@ -1,6 +1,6 @@
 //! What is found, as texts.
 
-use souper_graph::ast::LeftHandSide;
+use souper_graph::ast::{Item, LeftHandSide};
 use souper_ir::parse::{parse_left_hand_sides_str, parse_replacements_str};
 use souper_lookup::find::find;
 use souper_lookup::store::{Added, Store};

@@ -138,6 +138,31 @@ fn objects_have_the_place_of_the_left_hand_side(rt: HostRuntime) {
 }
 
 #[test]
+fn refused_store_has_a_hint_with_its_lines(rt: HostRuntime) {
+    let alloc = rt.alloc();
+    let mut store = Store::new(alloc);
+    let mut err = Vec::new(alloc);
+    let mut reader = "%x = var\ncand %x 1\n\n%y = var\n%y = var\ncand %y 1\n".as_bytes();
+    let mut watched = Watched::new(&mut err);
+    let status = fill_run::<&[u8], &mut Vec<u8>>(
+        alloc,
+        &mut store,
+        &mut reader,
+        "store",
+        &mut watched,
+    );
+    let want = "\
+store:5:1: cannot redefine '%y'
+     |
+   5 | %y = var
+     | ^
+hint: '%y' is defined on line 4
+";
+    let text = str::from_utf8(&err).expect(&rt, "UTF-8");
+    assert_eq!(rt; (status, text), (1, want));
+}
+
+#[test]
 fn refused_store_is_reported(rt: HostRuntime) {
     let alloc = rt.alloc();
     let mut store = Store::new(alloc);

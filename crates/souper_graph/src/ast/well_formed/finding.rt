@@ -1,7 +1,7 @@
 //! The first flaw of an item.
 
 ghost use Rattle.std.specs.Prelude.{◌≡◌, ◌↔◌, map, IfOk, IfSome, IsNone, IsTrue, MatchOption};
-ghost use Rattle.souper_graph.specs.View.{view_statement, view_left_hand_side, view_right_hand_side, view_replacement};
+ghost use Rattle.souper_graph.specs.View.{view_statement};
 ghost use Rattle.souper_graph.specs.PartsView.{view_parts};
 ghost use Rattle.souper_graph.specs.WellFormed.{WellFormed};
 ghost use Rattle.souper_graph.specs.Judging.{AllStand};
@@ -11,7 +11,6 @@ ghost use Rattle.souper_graph.specs.FlawSearch.{IsFlawAmong, LinesStand, IsFlawO
 use crate::ast::arenas::Arena;
 use crate::ast::flaws::{Flaw, FlawLocation, FlawReason};
 use crate::ast::ids::Id;
-use crate::ast::items::{LeftHandSide, Replacement, RightHandSide};
 use crate::ast::operands::Operand;
 use crate::ast::parts::{Ending, Parts};
 use crate::ast::statements::Statement;
@@ -94,41 +93,5 @@ impl Parts<'_> {
             Ok(None) => Ok(true),
             Err(error) => Err(error),
         }
-    }
-}
-
-impl LeftHandSide {
-    /// The first flaw of the item, or `None` if it [is well formed](Replacement::is_well_formed).
-    ///
-    /// The error is out of memory.
-    pub fn flaw(&self) -> Result<Option<Flaw>, AllocError>
-        ensures none { IfOk result (λ found. IsNone found ↔ WellFormed (view_left_hand_side self.now)) }
-        ensures first { IfOk result (λ found. IfSome found (IsFirstFlaw (view_left_hand_side self.now))) }
-    {
-        self.parts().flaw()
-    }
-}
-
-impl RightHandSide {
-    /// The first flaw of the item, or `None` if it [is well formed](Replacement::is_well_formed).
-    ///
-    /// The error is out of memory.
-    pub fn flaw(&self) -> Result<Option<Flaw>, AllocError>
-        ensures none { IfOk result (λ found. IsNone found ↔ WellFormed (view_right_hand_side self.now)) }
-        ensures first { IfOk result (λ found. IfSome found (IsFirstFlaw (view_right_hand_side self.now))) }
-    {
-        self.parts().flaw()
-    }
-}
-
-impl Replacement {
-    /// The first flaw of the item, or `None` if it [is well formed](Self::is_well_formed).
-    ///
-    /// The error is out of memory.
-    pub fn flaw(&self) -> Result<Option<Flaw>, AllocError>
-        ensures none { IfOk result (λ found. IsNone found ↔ WellFormed (view_replacement self.now)) }
-        ensures first { IfOk result (λ found. IfSome found (IsFirstFlaw (view_replacement self.now))) }
-    {
-        self.parts().flaw()
     }
 }

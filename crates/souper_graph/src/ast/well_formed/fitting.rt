@@ -3,10 +3,12 @@
 ghost use Rattle.std.specs.Prelude.{◌≡◌, ◌↔◌, map, true, IsTrue};
 ghost use Rattle.std.specs.List.{AllByRecursion};
 ghost use Rattle.souper_graph.specs.Names.{is_name_char, IsName};
+ghost use Rattle.souper_graph.specs.Operands.{operands_seen};
 ghost use Rattle.souper_graph.specs.View.{view_attribute, view_root_attribute, view_rhs};
 ghost use Rattle.souper_graph.specs.WellFormed.{FitsOptionalType, FitsOperand, FitsAttribute, FitsRootAttribute, FitsRhs};
 
 use crate::ast::attributes::{Attribute, RootAttribute};
+use crate::ast::instructions::Operands;
 use crate::ast::operands::{Operand, Type};
 use crate::ast::statements::AssignmentRhs;
 
@@ -37,6 +39,18 @@ pub(crate) fn operands_fit(operands: &[Operand]) -> bool
         }
     }
     true
+}
+
+// As `operands_fit`, of the operands of an instruction in place.
+fn few_operands_fit(operands: Operands<'_>) -> bool
+    ensures { IsTrue result ↔ AllByRecursion FitsOperand (operands_seen operands.entry) }
+{
+    match operands {
+        Operands::Zero => true,
+        Operands::One(a) => operand_fits(*a),
+        Operands::Two(a, b) => operand_fits(*a) && operand_fits(*b),
+        Operands::Three(a, b, c) => operand_fits(*a) && operand_fits(*b) && operand_fits(*c),
+    }
 }
 
 fn attribute_fits(attribute: &Attribute) -> bool
@@ -99,7 +113,9 @@ pub(crate) fn rhs_fits(value: &AssignmentRhs) -> bool
 {
     match value {
         AssignmentRhs::Phi(phi) => operands_fit(phi.values.as_slice()),
-        AssignmentRhs::Instruction(instruction) => operands_fit(instruction.operands().as_slice()),
+        AssignmentRhs::Instruction(instruction) => {
+            few_operands_fit(instruction.operands_in_place())
+        }
         // Any count of its type is valid. The read shows the proof that it is one.
         AssignmentRhs::Block(block) => {
             let _predecessors = block.predecessors;

@@ -8,4 +8,4 @@ pub returns-clause-vacuous : goal.returns-clause-vacuous
 returns-clause-vacuous c = vacuous_for_values
 
 pub returns-clause-vacuous_is_sound : goal.returns-clause-vacuous_is_sound
-returns-clause-vacuous_is_sound c = λ mode a m v x w h. absurd (v x w h)
+returns-clause-vacuous_is_sound c = λ mode a m v. (v.0, λ x w h. absurd (v.1 x w h))
