@@ -20,6 +20,36 @@ did you mean 'mul'?
 infer %y
 ---
 did you mean 'uadd.with.overflow'?
+=== lhs letters of a short instruction swapped
+%x = var
+%y = adn %x, 1
+infer %y
+---
+did you mean 'and'?
+=== lhs letter of an instruction doubled
+%x = var
+%y = orr %x, 1
+infer %y
+---
+did you mean 'or'?
+=== lhs letter missing in one instruction or another
+%x = var
+%y = fsh %x, 1, 1
+infer %y
+---
+
+=== lhs other letter in a long instruction
+%x = var
+%y = addnsv %x, 1
+infer %y
+---
+did you mean 'addnsw'?
+=== lhs other letter in a short instruction
+%x = var
+%y = ror %x, 1
+infer %y
+---
+
 === lhs instruction in capitals
 %x = var
 %y = ADD %x, 1
@@ -169,6 +199,19 @@ did you mean '%x'?
 infer %p
 ---
 did you mean '%block1'?
+=== lhs misspelt name of a block near a value
+%b1x = var
+%bb1 = block 2
+%p = phi %b1, 1, 2
+infer %p
+---
+did you mean '%bb1'?
+=== lhs misspelt name of a value near a block
+%left = block 1
+%lefts = var
+infer %leftt
+---
+did you mean '%lefts'?
 === lhs name of one letter
 %x = var
 infer %y
@@ -250,6 +293,72 @@ write the comparison alone: 'eq', 'ne', 'ult', 'slt', 'ule' or 'sle'
 infer %y
 ---
 write the comparison alone: 'eq', 'ne', 'ult', 'slt', 'ule' or 'sle'
+=== lhs greater without a sign
+%x = var
+%y = gt %x, 1
+infer %y
+---
+write 'ult' (unsigned) or 'slt' (signed) with the operands swapped
+=== lhs greater or equal without a sign
+%x = var
+%y = ge %x, 1
+infer %y
+---
+write 'ule' (unsigned) or 'sle' (signed) with the operands swapped
+=== lhs less or equal with another letter
+%x = var
+%y = ulte %x, 1
+infer %y
+---
+did you mean 'ule'?
+=== lhs comparison in capitals
+%x = var
+%y = UGT %x, 1
+infer %y
+---
+write 'ult' with the operands swapped
+=== lhs comparison with a point
+%x = var
+%y = ICMP.eq %x, 1
+infer %y
+---
+write the comparison alone: 'eq', 'ne', 'ult', 'slt', 'ule' or 'sle'
+=== lhs not in capitals
+%x = var
+%y = NOT %x
+infer %y
+---
+there is no 'not'; write 'xor' with -1
+=== lhs not equal
+%x = var
+%y = neq %x, 0:i8
+infer %y
+---
+did you mean 'ne'?
+=== lhs logical shift right
+%x = var
+%y = srl %x, 1
+infer %y
+---
+did you mean 'lshr'?
+=== lhs arithmetic shift right
+%x = var
+%y = sar %x, 1
+infer %y
+---
+did you mean 'ashr'?
+=== lhs select without vowels
+%x = var
+%y = slct %x, 1, 2
+infer %y
+---
+did you mean 'select'?
+=== lhs saturated sum without a sign
+%x = var
+%y = add.sat %x, 1
+infer %y
+---
+write 'uadd.sat' (unsigned) or 'sadd.sat' (signed)
 === lhs not
 %x = var
 %y = not %x
@@ -313,6 +422,30 @@ pc %x:i1 1
 infer %x
 ---
 a type comes after the name that is defined or a constant: '%y:i32 = add %x, 1:i32'
+=== lhs two flags
+%x = var
+%y = add nuw nsw %x, 1
+infer %y
+---
+did you mean 'addnw'?
+=== lhs two flags in the other order
+%x = var
+%y = shl nsw nuw %x, 1
+infer %y
+---
+did you mean 'shlnw'?
+=== lhs flag after an instruction with a flag
+%x = var
+%y = subnuw nsw %x, 1
+infer %y
+---
+did you mean 'subnw'?
+=== lhs flag after an instruction with both
+%x = var
+%y = mulnw nsw %x, 1
+infer %y
+---
+
 === lhs flag after a space
 %x = var
 %y = add nsw %x, 1
@@ -357,7 +490,31 @@ infer %x (demandedBits=0x1)
 %y = and %x, 0xffffffffffffffffff
 infer %y
 ---
+numbers are decimal: 4722366482869645213695
+=== lhs hex number of 128 bits
+%x = var
+%y = and %x, 0xffffffffffffffffffffffffffffffff
+infer %y
+---
+numbers are decimal: 340282366920938463463374607431768211455
+=== lhs hex number of 129 bits
+%x = var
+%y = and %x, 0x100000000000000000000000000000000
+infer %y
+---
 numbers are decimal
+=== lhs hex number with an underscore
+%x = var
+%y = add %x, 0xF_F:i32
+infer %y
+---
+numbers are decimal: 255
+=== lhs digit that is none of the base
+%x = var
+%y = add %x, 0b12
+infer %y
+---
+
 === lhs hex number with capital letters
 %x = var
 %y = add %x, 0XFF
@@ -402,6 +559,18 @@ write '1:i1' for 'true'
 === lhs false
 %x = var
 %y = eq %x, false
+infer %y
+---
+write '0:i1' for 'false'
+=== lhs true with a capital letter
+%x = var
+pc %x True
+infer %x
+---
+write '1:i1' for 'true'
+=== lhs false in capitals
+%x = var
+%y = eq %x, FALSE
 infer %y
 ---
 write '0:i1' for 'false'
@@ -468,6 +637,94 @@ a name begins with '%'
 %x = var
 %y = add mul %x, 2
 infer %y
+---
+an operand is a constant or a name; an instruction has a definition of its own
+=== lhs not in place of an operand
+%x = var
+%y = add not %x, 1
+infer %y
+---
+an operand is a constant or a name; an instruction has a definition of its own
+=== lhs comparison in place of an operand
+%x = var
+pc ugt %x 1
+infer %x
+---
+an operand is a constant or a name; an instruction has a definition of its own
+=== lhs instruction in place of a root
+%x = var
+infer add %x, 1
+---
+an operand is a constant or a name; an instruction has a definition of its own
+=== lhs word before an operand
+%x = var
+%y = add nws %x, 1
+infer %y
+---
+
+=== lhs type after infer
+%x = var
+infer i32 %x
+---
+a type comes after the name that is defined or a constant: '%y:i32 = add %x, 1:i32'
+=== lhs type after phi
+%b = block 1
+%p = phi i32 %b, 1
+infer %p
+---
+a type comes after the name that is defined or a constant: '%y:i32 = add %x, 1:i32'
+=== lhs type of a result
+%x = var
+%y = zext %x to i32
+infer %y
+---
+a type comes after the name that is defined or a constant: '%y:i32 = add %x, 1:i32'
+=== lhs undef
+%x = var
+%y = add %x, undef
+infer %y
+---
+there is no 'undef' or 'poison'
+=== rep poison
+%x = var
+cand %x poison
+---
+there is no 'undef' or 'poison'
+=== rep result as a name
+%x = var
+infer %x
+result = add %x, 0
+result 1
+---
+did you mean '%result'?
+=== rep result as a name before infer
+result = var
+infer 1
+---
+did you mean '%result'?
+=== lhs pc as a name
+pc:i8 = var
+infer %x
+---
+did you mean '%pc'?
+=== lhs infer as a name
+infer = var
+infer %x
+---
+did you mean '%infer'?
+=== lhs colon after infer
+%x = var
+infer: %x
+---
+
+=== lhs equals sign after infer
+%x = var
+infer = %x
+---
+
+=== lhs true as a root
+%x = var
+infer true
 ---
 
 === lhs comma in a path condition
@@ -572,6 +829,86 @@ infer %x, %x
 infer
 ---
 'infer' takes 1 operand
+=== lhs an operand too few before a definition
+%a1:i8 = var
+%a2 = add %a1,
+%a3 = mul %a1, 2
+infer %a3
+---
+'add' takes 2 operands
+=== lhs no operand before a definition
+%x = var
+%y = ctpop
+%z:i8 = add %y, 1
+infer %z
+---
+'ctpop' takes 1 operand
+=== lhs path condition with one operand before a definition
+%x = var
+pc %x
+%z = add %x, 1
+infer %z
+---
+'pc' takes 2 operands
+=== lhs a value of a phi too few before a definition
+%b = block 2
+%p = phi %b, 1,
+%z = add %p, 1
+infer %z
+---
+'%b' has 2 predecessors, and a phi has a value for each
+=== rep infer line of no name before a definition
+%x = var
+infer
+%z = add %x, 1
+result %z
+---
+'infer' takes 1 operand
+=== lhs no right side before a definition
+%x:i8 =
+%y = add %x, 1
+infer %y
+---
+the right side after '=' is missing
+=== lhs infer line of two names without a comma
+%x = var
+%y = add %x, 1
+infer %y %x
+---
+'infer' takes 1 operand
+=== rhs result line of two names
+%x = var
+result %x %x
+---
+'result' takes 1 operand
+=== rep cand line of three operands
+%x = var
+cand %x 1 %x
+---
+'cand' takes 2 operands
+=== lhs an unknown name too many
+%x = var
+%y = add %x, 1 %w
+infer %y
+---
+'add' takes 2 operands
+=== lhs name on the line after infer
+%x = var
+infer %x
+%y
+---
+
+=== lhs comma after the last operand
+%x = var
+%y = add %x, 1:i8,
+infer %y
+---
+no ',' comes after the last operand
+=== lhs comma after the root
+%x = var
+infer %x,
+---
+no ',' comes after the last operand
 === lhs operands without a comma
 %x = var
 %y = add %x 1
@@ -746,7 +1083,14 @@ the text begins with a byte order mark (U+FEFF); save it without
 %x = var\u{feff}
 infer %x
 ---
-
+this is a byte order mark (U+FEFF); remove it
+=== lhs byte order mark between two items
+%x = var
+infer %x
+\u{feff}%x = var
+infer %x
+---
+this is a byte order mark (U+FEFF); remove it
 === lhs bracket at the end of a range
 %x = var (range=[0,8])
 infer %x

@@ -115,6 +115,21 @@ fn each_word_takes_its_operands(rt: HostRuntime) {
     }
 }
 
+// Instructions of LLVM and of other languages that are near ones of the grammar, and have another meaning.
+const OTHERS: &str = "nor nand xnor orn andn eqv eqz eor rol ror rotl rotr \
+    fadd fsub fmul fdiv frem fneg fptrunc fcmp call load store ret br set mov swap \
+    addc adc sbc subc addw subw mulw mulh sltu divu remu lsh ash asl abs bic min max \
+    smul.sat umul.sat sshl.sat ushl.sat insertvalue extractelement addsub";
+
+#[test]
+fn no_other_instruction_is_suggested(rt: HostRuntime) {
+    let alloc = rt.alloc();
+    for word in OTHERS.split(' ') {
+        let text = applied(&rt, alloc, word, 2);
+        is_hinted(&rt, alloc, Kind::Lhs, text.as_str(), "");
+    }
+}
+
 // A left-hand side of the word with a letter after it.
 fn misspelt_word_is_found(rt: &impl Abort, alloc: Global, row: &str) {
     let (_digits, word) = row.split_once(' ').expect(rt, row);

@@ -9,7 +9,7 @@ use crate::hints::{Hint, Rule};
 use crate::kinds::Kind;
 use crate::message::Message;
 use crate::names::{redefinition, unknown_block, unknown_name};
-use crate::operands::{at_comma, at_end, at_name, at_operand};
+use crate::operands::{at_comma, at_end, at_name, at_operand, more_than_enough};
 use crate::right_sides::at_right_side;
 use crate::scene::Scene;
 use crate::spelling::{at_attribute, at_root_attribute, at_type, number_of_base};
@@ -27,9 +27,13 @@ fn at_character<'a>(scene: &Scene<'a>) -> Option<Hint<'a>>
     if text.starts_with(']') {
         return Some(Hint::Rule(Rule::Range));
     }
-    let is_first = scene.front.is_empty() && scene.line == 1;
-    if is_first && text.starts_with('\u{feff}') {
-        return Some(Hint::Rule(Rule::ByteOrderMark));
+    if text.starts_with('\u{feff}') {
+        let is_first = scene.front.is_empty() && scene.line == 1;
+        return Some(Hint::Rule(if is_first {
+            Rule::ByteOrderMark
+        } else {
+            Rule::LaterMark
+        }));
     }
     None
 }
@@ -57,6 +61,7 @@ fn hint_at<'a>(
         Message::UnknownBlock => unknown_block(alloc, scene),
         Message::Redefinition => Ok(redefinition(scene)),
         Message::Character => Ok(at_character(scene)),
+        Message::Equals => Ok(more_than_enough(scene)),
         Message::End => Ok(at_end(scene)),
         Message::Other => Ok(None),
     }

@@ -5,7 +5,7 @@ ghost use Rattle.souper_hint.specs.Hints.{SuggestsFrom};
 use crate::hints::{Hint, LastLine, Rule};
 use crate::kinds::Kind;
 use crate::nearest::nearest_word;
-use crate::operands::too_many;
+use crate::operands::{comma_after, too_many};
 use crate::scene::Scene;
 use crate::tokens::{is_after_name, is_operand, is_type, is_word};
 use crate::words::{CONDITIONS, is_beginning};
@@ -50,16 +50,19 @@ pub(crate) fn at_beginning<'a>(
     let Some(token) = scene.token() else {
         return Ok(None);
     };
-    if token == "," || is_operand(token) {
+    if token == "," {
+        return Ok(comma_after(scene));
+    }
+    if is_operand(token) {
         return Ok(too_many(scene));
     }
-    if token == ":" || is_type(token) {
+    if token == ":" || token == "to" || is_type(token) {
         return Ok(Some(Hint::Rule(Rule::Type)));
     }
     if !is_word(token) {
         return Ok(None);
     }
-    if is_beginning(token) {
+    if is_beginning(token) && !scene.is_in_heading(1) {
         return Ok(missing_line(scene, token));
     }
     if scene.next_token().is_some_and(is_after_name) {

@@ -20,10 +20,13 @@ pub enum Hint<'a> {
     /// One of two words: the unsigned and the signed instruction.
     Either(&'static str, &'static str),
 
+    /// The same, with the operands swapped.
+    EitherSwapped(&'static str, &'static str),
+
     /// The value of a number of another base.
     Decimal {
         is_negative: bool,
-        value: u64,
+        value: u128,
     },
 
     /// A bit in place of `true` or `false`.
@@ -110,14 +113,24 @@ pub enum Rule {
     Range,
     /// Where constants and names stand.
     Operand,
+    /// That the right side of a definition is missing.
+    RightSide,
+    /// Where instructions stand.
+    Instruction,
+    /// That no comma ends the operands.
+    LastOperand,
+    /// That no constant is undefined.
+    Undefined,
     /// In which base numbers are.
     Decimal,
     /// Where the attributes of a definition stand.
     Attribute,
     /// Where the attributes of a root stand.
     RootAttribute,
-    /// That a byte order mark is no white space.
+    /// That a byte order mark at the beginning is no white space.
     ByteOrderMark,
+    /// That one after the beginning is none.
+    LaterMark,
 }
 
 impl LastLine {
@@ -145,11 +158,18 @@ impl Rule {
             Rule::Comment => "a comment begins with ';'",
             Rule::Range => "a range ends with ')', as in '(range=[0,8))'",
             Rule::Operand => "a constant or a name is no right side; write it where it is used",
+            Rule::RightSide => "the right side after '=' is missing",
+            Rule::Instruction => {
+                "an operand is a constant or a name; an instruction has a definition of its own"
+            }
+            Rule::LastOperand => "no ',' comes after the last operand",
+            Rule::Undefined => "there is no 'undef' or 'poison'",
             Rule::Decimal => "numbers are decimal",
             Rule::Attribute => "this attribute comes after a definition",
             Rule::RootAttribute => "this attribute comes after 'infer' or 'cand' with its operands",
             Rule::ByteOrderMark =>
                 "the text begins with a byte order mark (U+FEFF); save it without",
+            Rule::LaterMark => "this is a byte order mark (U+FEFF); remove it",
         }
     }
 }
@@ -182,7 +202,7 @@ fn show_values<W: fmt::Write>(f: &mut fmt::Formatter<W>, block: &str, count: usi
 fn show_decimal<W: fmt::Write>(
     f: &mut fmt::Formatter<W>,
     is_negative: bool,
-    value: u64,
+    value: u128,
 ) -> fmt::Result {
     let sign = if is_negative { "-" } else { "" };
     write!(f, "numbers are decimal: {sign}{value}")
@@ -229,6 +249,10 @@ impl fmt::Display for Hint<'_> {
             Hint::Either(unsigned, signed) => {
                 write!(f, "write '{unsigned}' (unsigned) or '{signed}' (signed)")
             }
+            Hint::EitherSwapped(unsigned, signed) => write!(
+                f,
+                "write '{unsigned}' (unsigned) or '{signed}' (signed) with the operands swapped"
+            ),
             Hint::Decimal { is_negative, value } => show_decimal(f, is_negative, value),
             Hint::Bit(true) => write!(f, "write '1:i1' for 'true'"),
             Hint::Bit(false) => write!(f, "write '0:i1' for 'false'"),

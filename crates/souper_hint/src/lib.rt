@@ -9,6 +9,7 @@ mod advice;
 mod beginnings;
 mod headings;
 mod hints;
+mod instructions;
 mod kinds;
 mod marks;
 mod message;

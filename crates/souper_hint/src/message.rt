@@ -8,6 +8,7 @@ pub(crate) enum Message {
     /// Neither a statement nor a last line begins.
     Beginning,
     Comma,
+    Equals,
     Operand,
     Name,
     Type,
@@ -46,6 +47,7 @@ impl Message {
             "expected a constant, var, block, phi, or instruction" => Message::RightSide,
             "expected 'infer'" | "expected 'result'" | "expected 'cand'" => Message::Beginning,
             "expected ','" => Message::Comma,
+            "expected '='" => Message::Equals,
             "expected an integer literal" => Message::Operand,
             "expected a value name" => Message::Name,
             "expected a type (like 'i32', 'i8', or 'i1')" => Message::Type,

@@ -3,9 +3,10 @@ ghost use Rattle.std.specs.Prelude.{IfSome};
 ghost use Rattle.souper_hint.specs.Hints.{SuggestsFrom};
 
 use crate::hints::{Hint, Rule};
+use crate::right_sides::in_place_of;
 use crate::scene::Scene;
 use crate::tokens::{is_operand, is_type, is_word};
-use crate::words::{RIGHT_SIDES, operand_count};
+use crate::words::{RIGHT_SIDES, is_beginning, is_right_side, operand_count};
 
 // How many operands the statement of the error takes.
 fn count<'a>(scene: &Scene<'a>) -> Option<Hint<'a>>
@@ -24,8 +25,8 @@ fn count<'a>(scene: &Scene<'a>) -> Option<Hint<'a>>
     }
 }
 
-// The same, if it has fewer.
-fn too_few<'a>(scene: &Scene<'a>) -> Option<Hint<'a>>
+/// The same, if it has fewer.
+pub(crate) fn too_few<'a>(scene: &Scene<'a>) -> Option<Hint<'a>>
     ensures { IfSome result (SuggestsFrom scene.now.front.now) }
 {
     let statement = scene.statement();
@@ -48,6 +49,30 @@ pub(crate) fn too_many<'a>(scene: &Scene<'a>) -> Option<Hint<'a>>
     count(scene)
 }
 
+/// The same, if it has more, of which the last one was read as the name of a definition.
+pub(crate) fn more_than_enough<'a>(scene: &Scene<'a>) -> Option<Hint<'a>>
+    ensures { IfSome result (SuggestsFrom scene.now.front.now) }
+{
+    let statement = scene.statement();
+    let wanted = scene.wanted(statement)?;
+    if statement.has_attributes || statement.ends_on_new_line || statement.operands <= wanted {
+        return None;
+    }
+    count(scene)
+}
+
+/// A hint at a comma after a whole statement: one before an operand too many, or at the end.
+pub(crate) fn comma_after<'a>(scene: &Scene<'a>) -> Option<Hint<'a>>
+    ensures { IfSome result (SuggestsFrom scene.now.front.now) }
+{
+    let hint = too_many(scene)?;
+    if scene.has_next_on_line() {
+        Some(hint)
+    } else {
+        Some(Hint::Rule(Rule::LastOperand))
+    }
+}
+
 /// A hint where a comma should come.
 pub(crate) fn at_comma<'a>(scene: &Scene<'a>) -> Option<Hint<'a>>
     ensures { IfSome result (SuggestsFrom scene.now.front.now) }
@@ -56,6 +81,24 @@ pub(crate) fn at_comma<'a>(scene: &Scene<'a>) -> Option<Hint<'a>>
         Some(":") => Some(Hint::Rule(Rule::Type)),
         Some(token) if is_operand(token) && !scene.is_on_new_line() => None,
         _ => too_few(scene),
+    }
+}
+
+// Whether the word is one of LLVM's flags about wrapping.
+fn is_flag(word: &str) -> bool {
+    word == "nsw" || word == "nuw"
+}
+
+// The instruction of this word with a flag, which another flag comes before or after.
+fn with_both_flags(word: &str, has_more: bool) -> Option<&'static str> {
+    let stem = word
+        .strip_suffix("nsw")
+        .or(word.strip_suffix("nuw"))
+        .unwrap_or(word);
+    if has_more || stem.len() < word.len() {
+        joined(stem, "nw")
+    } else {
+        None
     }
 }
 
@@ -71,27 +114,60 @@ fn joined(front: &str, back: &str) -> Option<&'static str> {
     None
 }
 
+// Whether commas are between the operands of the statement of the error.
+fn has_commas(scene: &Scene<'_>) -> bool {
+    !is_beginning(scene.statement().word)
+}
+
 // A hint at a word in place of a name.
 fn named<'a>(scene: &Scene<'a>, word: &'a str) -> Option<Hint<'a>>
     ensures { IfSome result (SuggestsFrom scene.now.front.now) }
 {
     if scene.definition(word).is_some() {
-        Some(Hint::Lacks('%', word))
-    } else if operand_count(word).is_some() {
-        None
-    } else {
-        Some(Hint::Rule(Rule::Name))
+        return Some(Hint::Lacks('%', word));
     }
+    if is_type(word) {
+        return Some(Hint::Rule(Rule::Type));
+    }
+    match word {
+        "undef" | "poison" => return Some(Hint::Rule(Rule::Undefined)),
+        "infer" | "result" | "pc" | "cand" | "blockpc" | "true" | "false" => return None,
+        _ => {}
+    }
+    if is_right_side(word) || in_place_of(word).is_some() {
+        return Some(Hint::Rule(Rule::Instruction));
+    }
+    if scene.has_next_on_line() && scene.next_token().is_some_and(is_operand) && has_commas(scene) {
+        return None;
+    }
+    Some(Hint::Rule(Rule::Name))
 }
 
 // A hint at a word in place of an operand, after the word of its statement.
 fn at_word<'a>(scene: &Scene<'a>, front: &str, word: &'a str) -> Option<Hint<'a>>
     ensures { IfSome result (SuggestsFrom scene.now.front.now) }
 {
+    if is_flag(word)
+        && let Some(word) = with_both_flags(front, scene.next_token().is_some_and(is_flag))
+    {
+        return Some(Hint::Word(word));
+    }
     if let Some(word) = joined(front, word) {
         return Some(Hint::Word(word));
     }
     named(scene, word)
+}
+
+// A hint at a token that shows that the word before it, of a statement or last line, was meant as a name.
+fn keyword<'a>(scene: &Scene<'a>) -> Option<Hint<'a>>
+    ensures { IfSome result (SuggestsFrom scene.now.front.now) }
+{
+    let statement = scene.statement();
+    if scene.is_in_heading(0) && statement.first.is_empty() && is_beginning(statement.word) {
+        Some(Hint::Lacks('%', statement.word))
+    } else {
+        None
+    }
 }
 
 /// A hint where an operand should come.
@@ -103,12 +179,15 @@ pub(crate) fn at_operand<'a>(scene: &Scene<'a>) -> Option<Hint<'a>>
         _ => return too_few(scene),
     };
     let word = scene.statement().word;
+    if let Some(hint) = keyword(scene) {
+        return Some(hint);
+    }
     match token {
         "," | "=" if word == "pc" || word == "blockpc" => Some(Hint::NoMark { word, mark: token }),
         "=" if word == "cand" => Some(Hint::NoMark { word, mark: token }),
         ":" => Some(Hint::Rule(Rule::Type)),
-        "true" => Some(Hint::Bit(true)),
-        "false" => Some(Hint::Bit(false)),
+        _ if token.eq_ignore_ascii_case("true") => Some(Hint::Bit(true)),
+        _ if token.eq_ignore_ascii_case("false") => Some(Hint::Bit(false)),
         _ if !is_word(token) => None,
         _ if is_type(token) => Some(Hint::Rule(Rule::Type)),
         _ => at_word(scene, word, token),
@@ -121,7 +200,7 @@ pub(crate) fn at_name<'a>(scene: &Scene<'a>) -> Option<Hint<'a>>
 {
     match scene.token() {
         Some(token) if !scene.is_on_new_line() && is_word(token) => named(scene, token),
-        Some(_) if !scene.is_on_new_line() => None,
+        Some(_) if !scene.is_on_new_line() => keyword(scene),
         _ => too_few(scene),
     }
 }
@@ -133,5 +212,8 @@ pub(crate) fn at_end<'a>(scene: &Scene<'a>) -> Option<Hint<'a>>
     if scene.is_whole() {
         return Some(Hint::MissingAtEnd(scene.last_line()));
     }
-    too_few(scene)
+    match too_few(scene) {
+        Some(hint) => Some(hint),
+        None => more_than_enough(scene),
+    }
 }

@@ -6,7 +6,7 @@ use crate::hints::LastLine;
 use crate::kinds::Kind;
 use crate::marks::{Marks, has_empty_line};
 use crate::statement::Statement;
-use crate::tokens::{tokens_from, tokens_of};
+use crate::tokens::{is_type, is_word, tokens_from, tokens_of};
 use crate::words::operand_count;
 
 /// A rejected text at its error.
@@ -53,6 +53,26 @@ impl<'a> Scene<'a> {
     /// The token after it.
     pub(crate) fn next_token(&self) -> Option<&'a str> {
         Some(tokens_of(self.back).nth(1)?.text)
+    }
+
+    /// Whether the token of this index, from the one at fault on, comes after a name that is defined: `=` and a word, or `:` and a type.
+    pub(crate) fn is_in_heading(&self, index: usize) -> bool {
+        let mark = tokens_of(self.back).nth(index);
+        let next = tokens_of(self.back).nth(index.saturating_add(1));
+        match (mark, next) {
+            (Some(mark), Some(next)) => {
+                mark.text == "=" && is_word(next.text) || mark.text == ":" && is_type(next.text)
+            }
+            _ => false,
+        }
+    }
+
+    /// Whether the token after it is on the same line.
+    pub(crate) fn has_next_on_line(&self) -> bool {
+        match tokens_of(self.back).nth(1) {
+            Some(token) => !token.begins_line(self.back),
+            None => false,
+        }
     }
 
     // What is between the last token and the token at fault.

@@ -53,6 +53,33 @@ fn base_of(letter: char) -> Option<u32>
     }
 }
 
+// Whether the characters are digits of the base, between which `_` may stand.
+fn are_digits(digits: &str, base: u32) -> bool
+    requires { 2 ≤ base × (base ≤ 16) }
+{
+    for digit in digits.chars() {
+        if digit != '_' && !digit.is_digit(base) {
+            return false;
+        }
+    }
+    true
+}
+
+// The value of these digits, between which `_` may stand, if it is below 2^128.
+fn value_of(digits: &str, base: u32) -> Option<u128>
+    requires { 2 ≤ base × (base ≤ 16) }
+{
+    let mut value = 0u128;
+    for digit in digits.chars() {
+        if let Some(digit) = digit.to_digit(base) {
+            value = value
+                .checked_mul(u128::from(base))?
+                .checked_add(u128::from(digit))?;
+        }
+    }
+    Some(value)
+}
+
 /// A hint at the rest of a number of another base, which the parser reads as 0 and a word.
 pub(crate) fn number_of_base<'a>(scene: &Scene<'a>) -> Option<Hint<'a>>
     ensures { IfSome result (SuggestsFrom scene.now.front.now) }
@@ -65,16 +92,15 @@ pub(crate) fn number_of_base<'a>(scene: &Scene<'a>) -> Option<Hint<'a>>
     let token = scene.token()?;
     let base = base_of(token.chars().next()?)?;
     let digits = token.get(1..)?;
-    if !digits.bytes().all(|byte| byte.is_ascii_hexdigit()) {
+    if digits.is_empty() || !are_digits(digits, base) {
         return None;
     }
-    match u64::from_str_radix(digits, base) {
-        Ok(value) => Some(Hint::Decimal {
+    match value_of(digits, base) {
+        Some(value) => Some(Hint::Decimal {
             is_negative: before.ends_with('-'),
             value,
         }),
-        Err(_) if digits.len() > 16 => Some(Hint::Rule(Rule::Decimal)),
-        Err(_) => None,
+        None => Some(Hint::Rule(Rule::Decimal)),
     }
 }
 

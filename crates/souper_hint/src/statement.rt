@@ -16,6 +16,9 @@ pub(crate) struct Statement<'a> {
 
     pub(crate) has_attributes: bool,
 
+    /// Whether the last token is on another line than the one before it.
+    pub(crate) ends_on_new_line: bool,
+
     // The last token after the word; empty if there is none.
     last: &'a str,
 }
@@ -28,6 +31,7 @@ impl<'a> Statement<'a> {
             first: "",
             operands: 0,
             has_attributes: false,
+            ends_on_new_line: false,
             last: "",
         };
         let mut in_heading = is_name(text);
@@ -36,6 +40,7 @@ impl<'a> Statement<'a> {
                 in_heading = token.text != "=";
             } else {
                 statement.take(token.text);
+                statement.ends_on_new_line = token.begins_line(text);
             }
         }
         statement

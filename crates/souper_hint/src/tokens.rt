@@ -17,6 +17,12 @@ impl Token<'_> {
     pub(crate) fn end(&self) -> usize {
         self.offset.saturating_add(self.text.len())
     }
+
+    /// Whether it is on another line of the text than the token before it.
+    pub(crate) fn begins_line(&self, text: &str) -> bool {
+        text.get(self.gap..self.offset)
+            .is_some_and(|gap| gap.contains('\n'))
+    }
 }
 
 /// The tokens of a text from some offset on.

@@ -37,6 +37,11 @@ pub(crate) fn has_word(words: &str, word: &str) -> bool {
     words.split(' ').any(|other| other == word)
 }
 
+/// Whether a right side begins with the word.
+pub(crate) fn is_right_side(word: &str) -> bool {
+    word == "block" || word == "phi" || operand_count(word).is_some() && !is_beginning(word)
+}
+
 /// How many operands the word takes, if that is the same everywhere.
 pub(crate) fn operand_count(word: &str) -> Option<usize> {
     match word {
