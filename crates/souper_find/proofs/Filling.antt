@@ -21,7 +21,7 @@ use Rattle.souper_records.specs.Reports.{IsRefusalLine, hint_line, ReportedInput
 use Rattle.souper_records.proofs.Outcomes.{some_parts}
 use Rattle.souper_find.specs.Runs.{AreUnfilledLines, ReportedHint, IsFilled, IsFillRun}
 
--- what a store holds of the replacements that it took
+-- the entries of a store that took the replacements
 abbrev pub Holds : Store → Store → List Item → Type 0
 Holds first store items = (entries : List Entry) → Stores entries first → (now : List Entry) × AreAdded items entries now × Stores now store
 
@@ -42,7 +42,7 @@ works_before : (mid now : Bool) → (mid ≡ true → now ≡ true) → now ≡ 
 works_before true now stays works = let clash : true ≡ false = sym (stays refl) ∙ works in absurd cc
 works_before false now stays works = refl
 
--- the line of a refusal, and then that of a hint
+-- the line of a refusal, and then the line of a hint
 with_hint : {W : Type 0} (contents : W → Option (List ℕ)) (old mid new : Watched W) (last : Bool) (name : List ℕ) (e : ParseError) → Reported (stream contents old mid) (IsRefusalLine last name e)
     → ReportedHint (stream contents mid new) → (has_failed mid ≡ true → has_failed new ≡ true) → Reported (stream contents old new) (AreUnfilledLines last name e)
 with_hint contents old mid new last name e refusal hinted stays = λ works.
@@ -61,7 +61,7 @@ pub fill_stops : (entries : List Entry) (name : List ℕ) (before after : Option
 fill_stops entries name before after new err e status parts (inl (one, kind, line)) other = absurd (other one)
 fill_stops entries name before after new err e status parts (inr (two, why)) other = rw two why
 
--- status 1, after the line of the refusal and that of its hint
+-- status 1, after the line of the refusal and the line of its hint
 pub fill_refused : {W : Type 0} (contents : W → Option (List ℕ)) (err mid last : Watched W) (entries : List Entry) (name : List ℕ) (before after : Option (List ℕ)) (old new : Store) (e : ParseError) (status : ℕ) (parts : ItemReader)
     → (kind_of e ≡ Parse → IsStreamRefused replacement (Some name) before after Holds old new e)
     → (kind_of e ≡ Parse → (ps : List (List Line)) × (part : List Line) × HasParts replacement before after (ps ++ part ∷ []) parts) → ReportedInput name parts (stream contents err mid) status e

@@ -32,7 +32,7 @@ pub record IsFilled (entries : List Entry) (before after : Option (List ℕ)) (s
   pub added : AreAdded items entries now
   pub stores : Stores now store
 
--- the line of the refusal of a stream of this name, and then that of a hint, if there is one
+-- the line of the refusal of a stream of this name, and then the line of a hint, if there is one
 abbrev pub AreUnfilledLines : Bool → List ℕ → ParseError → List ℕ → Type 0
 AreUnfilledLines last name e lines = (hint : Option (List ℕ)) × AreRefusalLines last name (record { error = e; hint = hint }) lines
 
@@ -41,7 +41,8 @@ abbrev pub ReportedHint : Stream → Type 0
 ReportedHint err = err.failed ≡ false → (hint : Option (List ℕ)) × IsGiven err (hint_line hint)
 
 -- Whatever follows the text read, the stream of this name spells no replacements. The refusal has and shows its place in that text, says
--- where it is at fault and whether the segment ended there, and was reported, with a hint or without, given whether the stream ends with the text up to the end of the refused segment.
+-- where it is at fault and whether the segment ended there, and was reported, with a hint or without. Whether the stream ends with the
+-- refused segment is given.
 pub record IsUnfilled (name : List ℕ) (before after : Option (List ℕ)) (err : Stream) : Type 0 where
   pub read : List ℕ
   pub consumed : Consumes before after read
@@ -56,7 +57,7 @@ pub record IsUnfilled (name : List ℕ) (before after : Option (List ℕ)) (err 
   pub reported : Reported err (AreUnfilledLines last name error)
 
 -- What the status of adding the replacements of a stream to a store says: 0, they were added, and nothing was reported; 1, the stream is
--- refused, and that was reported; 2, a read failed or memory ran out, and that was reported.
+-- refused, and the refusal was reported; 2, a read failed or memory ran out, and the failure was reported.
 abbrev pub IsFillRun : List Entry → List ℕ → Option (List ℕ) → Option (List ℕ) → Store → Stream → ℕ → Type 0
 IsFillRun entries name before after store err status = OnStatus status
     (IsFilled entries before after store × IsGivenNothing err)

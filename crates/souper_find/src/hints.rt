@@ -24,7 +24,7 @@ fn hint_text(alloc: Global, part: &[u8], error: &ParseError) -> Option<String> {
     hint.to_string(alloc).ok()
 }
 
-// The line of that hint.
+// The line of the hint, if there is one.
 fn line_of_hint(alloc: Global, part: &[u8], error: &ParseError) -> Option<String>
     ensures { IfSome result (λ line. (text : List ℕ) × (string_bytes line ≡ hint_line (Some text))) }
 {

@@ -28,7 +28,8 @@ const CHUNK: usize = 65536;
 /// Adds the replacements of the stream to the store, and returns the status of the program.
 ///
 /// - 0: done, and nothing was written to `err`.
-/// - 1: the stream is refused. The refusal was written to `err`, and shows the name, and a newline, and its hint, if there is one.
+/// - 1: the stream does not parse. The parse error, which shows the name, was written to `err`, then a newline, then the line of its hint,
+///   if there is one.
 /// - 2: a read failed, the input is not UTF-8, or memory ran out. A line that says so was written to `err`.
 ///
 /// After status 1 or 2 nothing is promised of the store. If a write to `err` fails, the status is the same.

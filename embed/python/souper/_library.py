@@ -85,7 +85,11 @@ SIGNATURES: dict[str, list[Any]] = {
     "souper_first_segment": [ctypes.c_uint32, *_BYTES],
 }
 # What a function returns that is no `Outcome`.
-_RESULTS: dict[str, Any] = {"souper_version": ctypes.c_uint32, "souper_flaw": FlawNumbers, "souper_locate": LocationNumbers}
+_RESULTS: dict[str, Any] = {
+    "souper_version": ctypes.c_uint32,
+    "souper_flaw": FlawNumbers,
+    "souper_locate": LocationNumbers,
+}
 
 
 def _load() -> ctypes.CDLL:
