@@ -1,3 +1,11 @@
+pub mod Bounds
 pub mod ByPosition
+pub mod FactBits
+pub mod Marked
+pub mod Meeting
 pub mod Modes
+pub mod OperandBits
+pub mod Roots
+pub mod Rows
 pub mod Verdicts
+pub mod Walked

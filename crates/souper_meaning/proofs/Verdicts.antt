@@ -1,21 +1,14 @@
 -- Worked examples of sound, unsound and vacuous items.
 use Rattle.std.proofs.Common.{◌≡◌, ℕ, zero, suc, ◌+◌, ◌%◌, ◌<◌, ◌≤◌, [], ◌∷◌, slice_get, refl, arith, inl, inr, lit<, pos}
-use Rattle.souper_graph.specs.Values.{negative, range, Item}
+use Rattle.souper_graph.specs.Values.{negative, range}
 use Rattle.souper_graph.specs.Uses.{NeededIn, walked, used}
-use Rattle.souper_widths.specs.Maps.{WidthMap, result_width, operand_width}
+use Rattle.souper_widths.specs.Maps.{WidthMap}
 use Rattle.souper_words.specs.declared.outcome.Outcome.{Outcome}
 use Rattle.souper_words.specs.declared.outcome.Outcome.TheVariants.{Number, Poison, Undefined}
-use Rattle.souper_meaning.specs.Worlds.{World, value_at, Mode, value_inputs, poison_inputs, IsInput, GivesStatement}
+use Rattle.souper_meaning.specs.Worlds.{World, value_at, Mode, value_inputs, poison_inputs, IsInput, GivesAt}
 use Rattle.souper_meaning.specs.Statements.{out}
-use Rattle.souper_meaning.specs.Sound.{MeetsStatement, MeetsFacts, RefinesEnding, IsHole, Sound, Vacuous}
+use Rattle.souper_meaning.specs.Sound.{MeetsAt, MeetsFacts, RefinesEnding, IsHole, Sound, Vacuous}
 use Rattle.souper_meaning.specs.Examples.{shifted, shifted_widths, doubled, either, either_widths, thawed, thawed_widths, overflowing, overflowing_widths, divided, divided_widths, contradicted, contradicted_widths, holed, world_of, world_of_two}
-
--- at every position, needed or not
-abbrev GivesAt : Mode → Item → WidthMap → World → ℕ → Type 0
-GivesAt mode a m x p = GivesStatement mode (result_width m p) x p (slice_get a.statements p)
-
-abbrev MeetsAt : Item → WidthMap → World → ℕ → Type 0
-MeetsAt a m x p = MeetsStatement (result_width m p) (operand_width m p) x (out a m x) p (slice_get a.statements p)
 
 shifted_gives : (p : ℕ) → GivesAt value_inputs shifted shifted_widths (world_of (Number 1)) p
 shifted_gives zero = lit< tt

@@ -1,5 +1,5 @@
 -- Definitions. The word of an instruction, and the outcome of an instruction by the outcomes of its operands.
-use Rattle.std.specs.Prelude.{ℕ, Option, Some, None, List, [], ◌∷◌}
+use Rattle.std.specs.Prelude.{ℕ, Option, Some, None, List, slice_get}
 use Rattle.souper_graph.specs.declared.ast.operands.Operand.{Operand}
 use Rattle.souper_graph.specs.declared.ast.operands.Operand.TheVariants.{Value, Constant}
 use Rattle.souper_graph.specs.declared.ast.instructions.Instruction.{Instruction}
@@ -88,12 +88,14 @@ abbrev pub second_width : Word → ℕ → ℕ
 second_width extract_value_word v = 1
 second_width x v = v
 
--- the outcome of a word on its operands; one that it lacks counts as 0
+-- an operand that a word lacks counts as 0
+abbrev pub optional_outcome : (ℕ → Outcome) → ℕ → Option Operand → Outcome
+optional_outcome at n None = Number 0
+optional_outcome at n (Some o) = operand_outcome at n o
+
+-- the outcome of a word on its operands
 abbrev pub word_outcome : Word → ℕ → ℕ → ℕ → (ℕ → Outcome) → List Operand → Outcome
-word_outcome x w v choice at (a ∷ b ∷ c ∷ os) = outcome x w v choice (operand_outcome at (first_width x v) a) (operand_outcome at (second_width x v) b) (operand_outcome at v c)
-word_outcome x w v choice at (a ∷ b ∷ []) = outcome x w v choice (operand_outcome at (first_width x v) a) (operand_outcome at (second_width x v) b) (Number 0)
-word_outcome x w v choice at (a ∷ []) = outcome x w v choice (operand_outcome at (first_width x v) a) (Number 0) (Number 0)
-word_outcome x w v choice at [] = outcome x w v choice (Number 0) (Number 0) (Number 0)
+word_outcome x w v choice at os = outcome x w v choice (optional_outcome at (first_width x v) (slice_get os 0)) (optional_outcome at (second_width x v) (slice_get os 1)) (optional_outcome at v (slice_get os 2))
 
 -- a hole has no meaning, and counts as undefined behaviour
 abbrev pub optional_word_outcome : Option Word → ℕ → ℕ → ℕ → (ℕ → Outcome) → List Operand → Outcome

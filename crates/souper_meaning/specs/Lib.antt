@@ -1,6 +1,10 @@
+pub mod Evaluable
+pub mod Evaluations
 pub mod Examples
 pub mod Facts
 pub mod Instructions
+pub mod Plans
 pub mod Sound
 pub mod Statements
+pub mod View
 pub mod Worlds

@@ -40,9 +40,13 @@ MeetsStatement w v x at p (Some (condition c)) = AreEqual at v c.x c.y
 MeetsStatement w v x at p (Some (block_condition c)) = (predecessor_at x c.block ≢ c.predecessor) ⊎ AreEqual at v c.x c.y
 MeetsStatement w v x at p None = Unit {0}
 
+-- those of the statement at position p, if the item has these widths
+abbrev pub MeetsAt : Item → WidthMap → World → ℕ → Type 0
+MeetsAt a m x p = MeetsStatement (result_width m p) (operand_width m p) x (out a m x) p (slice_get a.statements p)
+
 -- the world meets the facts of needed inputs, and the conditions
 abbrev pub Meets : Item → WidthMap → World → Type 0
-Meets a m x = (p : ℕ) → NeededIn a p → MeetsStatement (result_width m p) (operand_width m p) x (out a m x) p (slice_get a.statements p)
+Meets a m x = (p : ℕ) → NeededIn a p → MeetsAt a m x p
 
 -- what the right side may be, where the bits d are wanted: anything for undefined behaviour, a value or poison for poison
 abbrev pub Refines : ℕ → Outcome → Outcome → Type 0

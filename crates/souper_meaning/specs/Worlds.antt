@@ -55,6 +55,10 @@ abbrev pub GivesStatement : Mode → ℕ → World → ℕ → Option PlainState
 GivesStatement m w x p (Some (assigned a)) = GivesRhs m w x p a.value
 GivesStatement m w x p s = Unit {0}
 
+-- what it gives to the statement at position p of an item of these widths
+abbrev pub GivesAt : Mode → Item → WidthMap → World → ℕ → Type 0
+GivesAt m a widths x p = GivesStatement m (result_width widths p) x p (slice_get a.statements p)
+
 -- a world of the item: each needed input has a value, each needed block a predecessor, each needed freeze a choice
 abbrev pub IsWorld : Mode → Item → WidthMap → World → Type 0
-IsWorld m a widths x = (p : ℕ) → NeededIn a p → GivesStatement m (result_width widths p) x p (slice_get a.statements p)
+IsWorld m a widths x = (p : ℕ) → NeededIn a p → GivesAt m a widths x p

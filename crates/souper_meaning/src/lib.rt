@@ -1,9 +1,28 @@
 //! The meaning of Souper IR: what an item gives in a run, and when a replacement is sound.
 #![tactic(auto)]
 
+mod conditions;
+mod evaluation;
+mod facts;
+mod giving;
 mod instructions;
+mod item_outcomes;
 pub mod laws;
+mod operands;
+mod planning;
+mod plans;
 mod refining;
+mod refusals;
+mod statements;
+mod worlds;
 
+pub use conditions::meets;
+pub use evaluation::eval_into;
+pub use giving::is_world;
 pub use instructions::word_of;
+pub use item_outcomes::{EvalError, Evaluation, eval};
+pub use operands::{instruction_outcome_of, operand_outcome_of, outcome_at};
+pub use planning::plan;
+pub use plans::{Plan, PlanError};
 pub use refining::{are_one_number, refines};
+pub use worlds::{Mode, World};
