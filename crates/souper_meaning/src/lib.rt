@@ -21,7 +21,6 @@ pub use evaluation::eval_into;
 pub use giving::is_world;
 pub use instructions::word_of;
 pub use item_outcomes::{EvalError, Evaluation, eval};
-pub use operands::{instruction_outcome_of, operand_outcome_of, outcome_at};
 pub use planning::plan;
 pub use plans::{Plan, PlanError};
 pub use refining::{are_one_number, refines};

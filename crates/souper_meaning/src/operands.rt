@@ -12,7 +12,7 @@ use souper_graph::ast::{Id, Instruction, Operand, Statement};
 use souper_words::{Outcome, Widths, Word, outcome_of, signed_bits};
 
 /// The outcome at a position, of those that are known.
-pub fn outcome_at(done: &[Outcome], position: usize) -> Outcome
+fn outcome_at(done: &[Outcome], position: usize) -> Outcome
     ensures { result ≡ outcome_in done.now position }
 {
     match done.get(position) {
@@ -22,7 +22,7 @@ pub fn outcome_at(done: &[Outcome], position: usize) -> Outcome
 }
 
 /// The outcome of an operand of this width.
-pub fn operand_outcome_of(done: &[Outcome], width: u32, operand: Operand) -> Outcome
+pub(crate) fn operand_outcome_of(done: &[Outcome], width: u32, operand: Operand) -> Outcome
     requires low { 1 ≤ width }
     requires high { width ≤ 128 }
     ensures { result ≡ operand_outcome (outcome_in done.now) width operand }
@@ -124,7 +124,7 @@ fn word_outcome_of(
 }
 
 /// The outcome of an instruction. A freeze of poison gives the choice.
-pub fn instruction_outcome_of(
+pub(crate) fn instruction_outcome_of(
     done: &[Outcome],
     widths: Widths,
     choice: u128,
