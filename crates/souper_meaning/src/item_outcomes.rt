@@ -1,7 +1,7 @@
 //! What an item gives in a world.
 
-ghost use Rattle.std.specs.Prelude.{◌≡◌, option_map, IfOk, IfErr};
-ghost use Rattle.souper_graph.specs.PartsView.{view_parts, view_ending};
+ghost use Rattle.std.specs.Prelude.{◌≡◌, ◌≤◌, option_map, IfOk, IfErr};
+ghost use Rattle.souper_graph.specs.PartsView.{view_parts};
 ghost use Rattle.souper_widths.specs.View.{view_widths};
 ghost use Rattle.souper_widths.specs.declared.flaws.WidthsError.TheVariants.{OutOfMemory};
 ghost use Rattle.souper_meaning.specs.declared.plans.PlanError.TheVariants.{Untyped};
@@ -66,10 +66,10 @@ impl From<PlanError> for EvalError {
 }
 
 /// The root of the left-hand side.
-fn left_root_of(ending: Ending<'_>) -> Option<Operand>
-    ensures { result ≡ left_root (view_ending ending) }
+fn left_root_of(parts: &Parts<'_>) -> Option<Operand>
+    ensures { result ≡ left_root (view_parts parts.now).ending }
 {
-    match ending {
+    match parts.ending {
         Ending::Infer(infer) => Some(Operand::Value(infer.value)),
         Ending::Result(_) => None,
         Ending::Replaced(infer, _) => Some(Operand::Value(infer.value)),
@@ -78,10 +78,10 @@ fn left_root_of(ending: Ending<'_>) -> Option<Operand>
 }
 
 /// The root of the right-hand side.
-fn right_root_of(ending: Ending<'_>) -> Option<Operand>
-    ensures { result ≡ right_root (view_ending ending) }
+fn right_root_of(parts: &Parts<'_>) -> Option<Operand>
+    ensures { result ≡ right_root (view_parts parts.now).ending }
 {
-    match ending {
+    match parts.ending {
         Ending::Infer(_) => None,
         Ending::Result(result) => Some(*result),
         Ending::Replaced(_, result) => Some(*result),
@@ -109,8 +109,8 @@ fn evaluation_by(parts: &Parts<'_>, plan: &Plan, world: &World, outcomes: &[Outc
     ensures { IsEvaluationBy (view_parts parts.now) (view_widths plan.now.widths) (view_world world.now) result }
 {
     let width = plan.widths.root;
-    let left = root_outcome_of(outcomes, width, left_root_of(parts.ending));
-    let right = root_outcome_of(outcomes, width, right_root_of(parts.ending));
+    let left = root_outcome_of(outcomes, width, left_root_of(parts));
+    let right = root_outcome_of(outcomes, width, right_root_of(parts));
     let is_met = meets(parts, plan, world, outcomes);
     Evaluation {
         left,

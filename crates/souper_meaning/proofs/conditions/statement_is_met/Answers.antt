@@ -11,13 +11,13 @@ use Rattle.souper_meaning.proofs.conditions.statement_is_met.Goals as goal
 
 pub assignment_is_met-requires : goal.assignment_is_met-requires
 assignment_is_met-requires c =
-    subst (λ (o : Outcome). IsTestableRhs c.args.widths.result o (map view_attribute c.in-Assignment.assignment.now.attributes.items) (view_rhs c.in-Assignment.assignment.now.value)) (sym c.value.ensures)
+    subst (λ (o : Outcome). IsTestableRhs c.args.widths.result o (map view_attribute c.in-Assignment.assignment.attributes.items) (view_rhs c.in-Assignment.assignment.value)) (sym c.value.ensures)
     (subst (λ (s : Statement). IsTestable c.args.widths.result c.args.widths.operands (view_world c.args.world.now) c.args.position (view_statement s)) c.in-Assignment.is c.requires)
 
 pub returns-in-Assignment : goal.returns-in-Assignment
 returns-in-Assignment c =
     subst (λ (s : Statement). IsTrue c.assignment_is_met.result ↔ MeetsStatement c.args.widths.result c.args.widths.operands (view_world c.args.world.now) (outcome_in c.args.done.now) c.args.position (Some (view_statement s))) (sym c.in-Assignment.is)
-    (subst (λ (o : Outcome). IsTrue c.assignment_is_met.result ↔ MeetsRhs c.args.widths.result o (map view_attribute c.in-Assignment.assignment.now.attributes.items) (view_rhs c.in-Assignment.assignment.now.value)) c.value.ensures c.assignment_is_met.ensures)
+    (subst (λ (o : Outcome). IsTrue c.assignment_is_met.result ↔ MeetsRhs c.args.widths.result o (map view_attribute c.in-Assignment.assignment.attributes.items) (view_rhs c.in-Assignment.assignment.value)) c.value.ensures c.assignment_is_met.ensures)
 
 pub are_equal-requires-clause-low : goal.are_equal-requires-clause-low
 are_equal-requires-clause-low c =
