@@ -1,6 +1,6 @@
 //! The outcomes of an item's statements.
 
-ghost use Rattle.std.specs.Prelude.{◌≡◌, ℕ, false, length, slice_index, slice_index_or};
+ghost use Rattle.std.specs.Prelude.{◌≡◌, false, length, slice_index, slice_index_or};
 ghost use Rattle.souper_graph.specs.PartsView.{view_parts};
 ghost use Rattle.souper_graph.specs.Uses.{NeededIn};
 ghost use Rattle.souper_widths.specs.View.{view_widths};

@@ -1,6 +1,6 @@
 //! Whether a world is one of an item.
 
-ghost use Rattle.std.specs.Prelude.{◌≡◌, ◌↔◌, ◌^◌, ◌<◌, ◌≤◌, map, IsTrue, MatchOption};
+ghost use Rattle.std.specs.Prelude.{◌↔◌, ◌^◌, ◌<◌, ◌≤◌, IsTrue, MatchOption};
 ghost use Rattle.souper_graph.specs.View.{view_rhs, view_statement};
 ghost use Rattle.souper_graph.specs.PartsView.{view_parts};
 ghost use Rattle.souper_graph.specs.Uses.{NeededIn};
