@@ -21,7 +21,7 @@ infer %v
 === rep roots of 129 bits
 cand 0:i129 0
 ---
-;; => RootTooWide
+;; => too wide roots
 
 === rep a hole
 %x:i129 = var
@@ -37,7 +37,7 @@ result %h
 infer %x
 result 300
 ---
-;; => Untyped(Flawed(WidthFlaw { location: Result, reason: ConstantTooWide }))
+;; => no widths
 
 === lhs values of other items
 %x:i8 = var

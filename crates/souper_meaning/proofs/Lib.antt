@@ -4,6 +4,7 @@ pub mod FactBits
 pub mod Marked
 pub mod Meeting
 pub mod Modes
+pub mod OneEvaluation
 pub mod OperandBits
 pub mod Roots
 pub mod Rows

@@ -1,4 +1,4 @@
-//! Worked examples of the meaning of items. No function here does anything.
+//! Laws and worked examples of the meaning of items. No function here does anything.
 
 ghost use Rattle.std.specs.Prelude.{◌≡◌};
 ghost use Rattle.souper_words.specs.declared.outcome.Outcome.TheVariants.{Number, Poison, Undefined};
@@ -8,6 +8,12 @@ ghost use Rattle.souper_widths.specs.Maps.{WidthMap};
 ghost use Rattle.souper_graph.specs.WellFormed.{WellFormed};
 ghost use Rattle.souper_meaning.specs.Worlds.{World, Mode, value_inputs, poison_inputs};
 ghost use Rattle.souper_meaning.specs.Sound.{Refines, Sound, Vacuous};
+ghost use Rattle.souper_widths.specs.declared.flaws.WidthsError.{WidthsError};
+ghost use Rattle.souper_meaning.specs.declared.plans.PlanError.TheVariants.{Untyped};
+ghost use Rattle.souper_meaning.specs.declared.item_outcomes.Evaluation.{Evaluation};
+ghost use Rattle.souper_meaning.specs.declared.item_outcomes.EvalError.{EvalError};
+ghost use Rattle.souper_meaning.specs.declared.item_outcomes.EvalError.TheVariants.{NoPlan};
+ghost use Rattle.souper_meaning.specs.Evaluations.{IsEvaluation, IsEvalError};
 ghost use Rattle.souper_meaning.specs.Examples.{shifted, shifted_widths, doubled, either, either_widths, thawed, thawed_widths, overflowing, overflowing_widths, divided, divided_widths, contradicted, contradicted_widths, holed, chosen, chosen_widths, world_of, reached_by};
 
 /// An item's outcomes: 1 by -128 is -128, and 1 shifted by 7 is out of signed numbers.
@@ -24,6 +30,12 @@ pub fn law_of_outcomes()
 /// In a well-formed item the outcome at each needed position is what its statement says of the outcomes of its operands.
 pub fn law_of_positions()
     ensures { (a : Item) (m : WidthMap) (x : World) → WellFormed a → IsByStatement a m x }
+{}
+
+/// An item has one evaluation in a world, and then no error but one of those of its widths.
+pub fn law_of_evaluations()
+    ensures one { (a : Item) (x : World) (e f : Evaluation) → IsEvaluation a x e → IsEvaluation a x f → e ≡ f }
+    ensures refused { (a : Item) (x : World) (e : Evaluation) (f : EvalError) → IsEvaluation a x e → IsEvalError a x f → (g : WidthsError) × (f ≡ NoPlan (Untyped g)) }
 {}
 
 /// What the right side may be: only undefined behaviour may become undefined behaviour.
