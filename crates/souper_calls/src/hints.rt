@@ -20,7 +20,7 @@ fn hint_kind(kind: Kind) -> souper_hint::Kind {
     }
 }
 
-// The hint for the parse error of a source after so many lines, whose lines it counts too; empty if there is none.
+// The hint for the parse error of a source that this number of lines precedes; the hint counts them too. Empty if there is none.
 fn text_of_hint(
     alloc: Global,
     kind: Kind,
