@@ -69,21 +69,37 @@ fn code_is_written(rt: HostRuntime) {
 }
 
 #[test]
-fn hints_are_written(rt: HostRuntime) {
-    let alloc = rt.alloc();
+fn hint_is_written(rt: HostRuntime) {
     let mut out = [b'.'; ROOM];
     let twice = b"%left = var\n%left = var\ninfer %left";
-    let hinted = souper_hint(alloc, 0, 3, twice, &mut out);
+    let hinted = souper_hint(rt.alloc(), 0, 3, twice, &mut out);
     equal(&rt, hinted, plain(1, 28));
     equal(&rt, out.get(..30), Some(b"'%left' is defined on line 4.."));
-    let short = souper_hint(alloc, 0, 0, twice, &mut out[..27]);
+}
+
+#[test]
+fn hint_of_a_short_buffer_has_its_length(rt: HostRuntime) {
+    let mut out = [b'.'; 27];
+    let twice = b"%left = var\n%left = var\ninfer %left";
+    let short = souper_hint(rt.alloc(), 0, 0, twice, &mut out);
     equal(&rt, short, plain(5, 28));
-    let without = souper_hint(alloc, 0, 0, b"infer %x", &mut out);
+}
+
+#[test]
+fn text_may_have_no_hint(rt: HostRuntime) {
+    let mut out = [b'.'; ROOM];
+    let without = souper_hint(rt.alloc(), 0, 0, b"infer %x", &mut out);
     equal(&rt, without, plain(1, 0));
-    let spelled = souper_hint(alloc, 1, 0, b"result 1", &mut out);
+    let spelled = souper_hint(rt.alloc(), 1, 0, b"result 1", &mut out);
     equal(&rt, spelled, plain(0, 0));
-    equal(&rt, souper_hint(alloc, 3, 0, b"", &mut out), plain(2, 0));
-    let not_utf8 = souper_hint(alloc, 0, 0, b"\xff", &mut out);
+}
+
+#[test]
+fn hint_is_of_a_text_of_a_kind(rt: HostRuntime) {
+    let mut out = [b'.'; ROOM];
+    let unknown = souper_hint(rt.alloc(), 3, 0, b"", &mut out);
+    equal(&rt, unknown, plain(2, 0));
+    let not_utf8 = souper_hint(rt.alloc(), 0, 0, b"\xff", &mut out);
     equal(&rt, not_utf8, plain(4, 0));
 }
 
