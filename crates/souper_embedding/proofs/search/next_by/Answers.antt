@@ -20,7 +20,7 @@ returns-in-Some-clause-next c = λ i j is wl state first.
     let x = c.args.state.now in
     let at = at-next ss qs i j x c.args.search.now.conditions.now c.deref.result.now c.len.result c.deref.ensures.value (c.len.ensures ∙ c.args.state.now.images.ok.0) wl is.conditions c.requires state in
     let met = subst (λ (o : Option Map). IfSome o (λ next. (i j : PlainInfer) (k : ℕ) → IsAtCondition ss qs i j c.deref.result.now k (get_or c.args.search.now.conditions.now c.len.result 0)
-        → IsMet ss qs i j c.deref.result.now next.items k (get_or c.args.search.now.conditions.now c.len.result 0) c.args.q)) c.in-Some.is c.in_ok-map.ensures.met in
+    → IsMet ss qs i j c.deref.result.now next.items k (get_or c.args.search.now.conditions.now c.len.result 0) c.args.q)) c.in-Some.is c.in_ok-map.ensures.met in
     next-state ss qs i j x (record { map = c.in-Some.map; images = c.in_ok-images.images }) c.deref.result.now (get_or c.args.search.now.conditions.now c.len.result 0) c.args.q c.deref.ensures.value at state
     (met i j (length x.images.items) at) (c.in_ok-images.ensures ∙ ap (λ (z : List ℕ). z ++ c.args.q ∷ []) c.as_slice.ensures.value) first
 
