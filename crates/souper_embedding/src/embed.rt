@@ -89,7 +89,8 @@ fn first_of_left(
 /// The map is known at what the left-hand side of the replacement needs. Of two maps the first is the one that takes a path condition to
 /// an earlier one of the query, where they first differ. A `cand` embeds into no query: `Replacement::by_result` gives it a result.
 ///
-/// The error is out of memory.
+/// Of a replacement that is not well formed nothing is promised. It tries at most (n + 1)^k maps, of k path conditions of the replacement
+/// and n distinct ones of the query. The error is out of memory.
 pub fn first_embedding(
     alloc: Global,
     stored: &Replacement,
@@ -154,7 +155,8 @@ fn list_of_left(
 
 /// The embeddings of a stored replacement into a query, in the order of [`first_embedding`], at most as many as the limit.
 ///
-/// It says whether there is another. The error is out of memory.
+/// It says whether there is another. Of a replacement that is not well formed nothing is promised. The limit bounds the answers, not the
+/// maps that are tried. The error is out of memory.
 pub fn embeddings(
     alloc: Global,
     stored: &Replacement,
