@@ -67,11 +67,11 @@ goes-too s q m n x y f a b wm wn p k g =
 same-embedding : (s q : Item) (m n : List (Option ℕ)) (x y : List ℕ) (f : ℕ → ℕ) → IsEmbedding s q m x → IsEmbedding s q n y → Follows m f → Follows n f → (m ≡ n) × (x ≡ y)
 same-embedding s q m n x y f a b wm wn = (
   same-maps m n (a.long ∙ sym b.long) (goes-too s q m n x y f a b wm wn) (goes-too s q n m y x f b a wn wm),
-  same-images s q f x y (a.images f wm) (b.images f wn),
+  same-images s q f x y (a.taken f wm) (b.taken f wn),
 )
 
 later-precedes : (s q : Item) (m : List (Option ℕ)) (x y : List ℕ) → IsEmbedding s q m x → IsLater s q y (total_of m) → Precedes y x
-later-precedes s q m x y a h = subst (λ z. Precedes y z) (same-images s q (total_of m) h.0 x h.1 (a.images (total_of m) (total-follows m))) h.2
+later-precedes s q m x y a h = subst (λ z. Precedes y z) (same-images s q (total_of m) h.0 x h.1 (a.taken (total_of m) (total-follows m))) h.2
 
 pub first-determined : (s q : Item) (m n : List (Option ℕ)) (x y : List ℕ) → IsFirst s q m x → IsFirst s q n y → (m ≡ n) × (x ≡ y)
 first-determined s q m n x y a b = elim (b.first (total_of m) (a.is.embeds (total_of m) (total-follows m))) [

@@ -370,6 +370,9 @@ merged = record {
   };
 }
 
+differ : (a b : ℕ) → a < b → a ≡ b → ⊥
+differ a b l e = omega arith
+
 pub inputs : (to : ℕ → ℕ) → ¬ Embeds paired_stored paired_query to
 inputs to h =
     let l = left-of paired_stored paired_query (record { value = 2; attributes = [] }) (record { value = 1; attributes = [] }) (number 0) to refl refl h in
@@ -380,8 +383,7 @@ inputs to h =
     let v : instruction (Sub (Value 0) (Value 0)) ≡ instruction (Sub (Value (to 0)) (Value (to 1))) = subst (λ (k : PlainAssignment). k.value ≡ instruction (Sub (Value (to 0)) (Value (to 1)))) z x.2.value in
     let first : 0 ≡ to 0 = cc in
     let second : 0 ≡ to 1 = cc in
-    let n : 0 ≡ 1 = l.one_to_one 0 1 (used (walked (inl refl)) (inl refl)) (used (walked (inl refl)) (inr (inl refl))) (sym first ∙ second) in
-    absurd (omega arith)
+    differ 0 1 (omega arith) (l.one_to_one 0 1 (used (walked (inl refl)) (inl refl)) (used (walked (inl refl)) (inr (inl refl))) (sym first ∙ second))
 
 width_of : Option Ty → ℕ
 width_of None = 0
@@ -399,5 +401,4 @@ width to h =
     let y : Some (assigned x.0) ≡ Some (assigned b) = sym x.1 ∙ ap (slice_get wide_query.statements) (sym at) in
     let z : x.0 ≡ b = cc in
     let t : b.ty ≡ byte = subst (λ (k : PlainAssignment). k.ty ≡ byte) z x.2.ty in
-    let n : 16 ≡ 8 = ap width_of t in
-    absurd (omega arith)
+    differ 8 16 (omega arith) (sym (ap width_of t))

@@ -101,7 +101,7 @@ left-embeds s q i j r f es eq h =
 
 -- an item that has no result line embeds nowhere
 pub other-embeds : (s q : Item) (f : ℕ → ℕ) → ((i : PlainInfer) (r : Operand) → s.ending ≡ replaced i r → ⊥) → Embeds s q f → ⊥
-other-embeds s q f no h = no h.infer h.result h.stored
+other-embeds s q f never h = never h.infer h.result h.stored
 
 not-condition : (ss : List PlainStatement) (p : ℕ) → Has (conditions_in ss) p → IsAssigned (slice_get ss p) → ⊥
 not-condition ss p c a =
@@ -139,7 +139,7 @@ state-embedding s q i j r x es eq ws h whole wants = record {
       let same = same-infer s i z r es e in
       subst (λ y. ((k : ℕ) × GoesTo x.map.items p k) ↔ (NeededIn (with_infer s y) p × IsAssigned (slice_get s.statements p))) same (known-left s q.statements i j x.map.items (length x.images.items) wl whole h.reached p));
   embeds = λ f w. item-embeds s q i j r f es eq (reached-embeds (left_item s.statements i) (left_item q.statements j) i j x.map.items (length x.images.items) wl whole h.reached wants f w);
-  images = λ f w. record { long = whole; there = h.images f w; first = h.first };
+  taken = λ f w. record { long = whole; there = h.images f w; first = h.first };
 }
   where
     wl : WellFormed (with_infer s i)
@@ -262,13 +262,13 @@ list-after (Err e) s start limit h is = h
 
 -- an item without a result line
 pub none-item : (s q : Item) (limit : ℕ) (x : Embeddings) → x.found.items ≡ [] → x.are_all ≡ true → ((f : ℕ → ℕ) → Embeds s q f → ⊥) → AreFirst s q limit x.found.items x.are_all
-none-item s q limit x empty all no = record {
+none-item s q limit x empty all never = record {
   each = λ y m. absurd (nothing y m);
   ordered = subst (λ (z : List Embedding). AreOrdered z) (sym empty) tt;
-  first = λ f embeds. absurd (no f embeds);
+  first = λ f embeds. absurd (never f embeds);
   few = (let e : length x.found.items ≡ 0 = ap length empty in omega arith);
   full = λ e. absurd (let z : true ≡ false = sym all ∙ e in cc);
-  cut = ((λ e. absurd (let z : true ≡ false = sym all ∙ e in cc)), (λ c. absurd (no c.0 c.1)));
+  cut = ((λ e. absurd (let z : true ≡ false = sym all ∙ e in cc)), (λ c. absurd (never c.0 c.1)));
 }
   where
     nothing : (y : Embedding) → Has x.found.items y → ⊥

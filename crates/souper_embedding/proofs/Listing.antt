@@ -133,7 +133,7 @@ differ-at (d ∷ ds) [] h = absurd h
 differ-at (d ∷ ds) (e ∷ es) (inl l) = record { index = 0; first = d; second = e; there = refl; other = refl; less = l }
 differ-at (d ∷ ds) (e ∷ es) (inr h) = let r = differ-at ds es h.1 in record { index = suc r.index; first = r.first; second = r.second; there = r.there; other = r.other; less = r.less }
 
-one-list : (ss qs : List PlainStatement) (f : ℕ → ℕ) (ds es : List ℕ) → length ds ≡ length (conditions_in ss) → GoThere ss qs f ds → AreFirstOfEqual qs ds → GoThere ss qs f es → AreFirstOfEqual qs es → Precedes ds es → ⊥
+pub one-list : (ss qs : List PlainStatement) (f : ℕ → ℕ) (ds es : List ℕ) → length ds ≡ length (conditions_in ss) → GoThere ss qs f ds → AreFirstOfEqual qs ds → GoThere ss qs f es → AreFirstOfEqual qs es → Precedes ds es → ⊥
 one-list ss qs f ds es long there first other second h =
     let r = differ-at ds es h in
     let l : r.index < length (conditions_in ss) = (let w = slice_get_within ds r.index r.first r.there in omega arith) in
@@ -198,15 +198,15 @@ cut-found ss qs i j start state given limit x ws wl eg wants follows few most lo
 
 -- nothing embeds
 pub none-found : (ss qs : List PlainStatement) (i j : PlainInfer) (limit : ℕ) (x : Embeddings) → x.found.items ≡ [] → x.are_all ≡ true → NoneEmbeds ss qs i j → AreFirstFor ss qs i j limit x
-none-found ss qs i j limit x empty all no = record {
+none-found ss qs i j limit x empty all never = record {
   states = λ y m. absurd (nothing y m);
   whole = λ y m. absurd (nothing y m);
   wanted = λ y m. absurd (nothing y m);
   ordered = subst (λ (z : List Embedding). AreOrdered z) (sym empty) tt;
-  first = λ f embeds. absurd (no f embeds);
+  first = λ f embeds. absurd (never f embeds);
   few = (let e : length x.found.items ≡ 0 = ap length empty in omega arith);
   full = λ e. absurd (let z : true ≡ false = sym all ∙ e in cc);
-  all = λ e f embeds. absurd (no f embeds);
+  all = λ e f embeds. absurd (never f embeds);
   cut = λ e. absurd (let z : true ≡ false = sym all ∙ e in cc);
 }
   where

@@ -40,7 +40,7 @@ pub record IsEmbedding (s q : Item) (m : List (Option ℕ)) (images : List ℕ) 
   pub long : length m ≡ length s.statements
   pub known : IsKnownOnLeft s m
   pub embeds : (f : ℕ → ℕ) → Follows m f → Embeds s q f
-  pub images : (f : ℕ → ℕ) → Follows m f → AreImages s q f images
+  pub taken : (f : ℕ → ℕ) → Follows m f → AreImages s q f images
 
 -- it takes the path conditions to later positions than these
 abbrev pub IsLater : Item → Item → List ℕ → (ℕ → ℕ) → Type 0

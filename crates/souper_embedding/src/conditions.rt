@@ -9,7 +9,7 @@ ghost use Rattle.souper_embedding.specs.Given.{AreGivenTo, AreGiven};
 ghost use Rattle.souper_embedding.specs.Maps.{Follows, Binds, AreBelow};
 
 use crate::maps::{bind_block, bind_operand};
-use souper_graph::ast::{Arena, BlockPc, Id, Pc, Statement};
+use souper_graph::ast::{Arena, BlockPc, Id, Operand, Pc, Statement};
 use std::alloc::{AllocError, Global};
 
 // The positions of the path conditions, ascending.
@@ -47,16 +47,25 @@ fn is_condition_at(statements: &Arena<Statement>, index: usize) -> bool
     }
 }
 
-fn same_pc(x: Pc, y: Pc) -> bool
+fn same_operand(x: Operand, y: Operand) -> bool
     ensures { IsTrue result ↔ (x ≡ y) }
 {
     x == y
 }
 
+fn same_pc(x: Pc, y: Pc) -> bool
+    ensures { IsTrue result ↔ (x ≡ y) }
+{
+    same_operand(x.x, y.x) && same_operand(x.y, y.y)
+}
+
 fn same_block_pc(x: BlockPc, y: BlockPc) -> bool
     ensures { IsTrue result ↔ (x ≡ y) }
 {
-    x == y
+    x.block == y.block
+        && x.predecessor == y.predecessor
+        && same_operand(x.x, y.x)
+        && same_operand(x.y, y.y)
 }
 
 fn are_same(x: &Statement, y: &Statement) -> bool

@@ -7,8 +7,8 @@ use Rattle.souper_embedding.proofs.Listing.{searched-next, searched-found, one-l
 use Rattle.souper_embedding.proofs.Work.{work-less, work-taken}
 use Rattle.souper_embedding.proofs.search.advance.Goals as goal
 
-pub expand-next-requires : goal.expand-next-requires
-expand-next-requires c = subst (λ (z : List ℕ). length z < length c.args.search.now.conditions.now) c.as_slice.ensures.value (c.is_whole.ensures.part c.if-not-is_whole.true)
+pub expand-requires : goal.expand-requires
+expand-requires c = subst (λ (z : List ℕ). length z < length c.args.search.now.conditions.now) c.as_slice.ensures.value (c.is_whole.ensures.part c.if-not-is_whole.true)
 
 pub returns-then-not-is_whole-clause-less : goal.returns-then-not-is_whole-clause-less
 returns-then-not-is_whole-clause-less c = λ t.

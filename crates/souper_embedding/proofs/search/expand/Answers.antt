@@ -5,6 +5,7 @@ use Rattle.std.proofs.lemmas.Option.{slice_get-get_or}
 use Rattle.souper_graph.specs.Uses.{Has}
 use Rattle.souper_embedding.specs.declared.search.Embedding.{Embedding}
 use Rattle.souper_embedding.specs.States.{stored_of, query_of, AreNext}
+use Rattle.souper_embedding.proofs.Given.{number-has}
 use Rattle.souper_embedding.proofs.Stacks.{next-start, next-step, step-few, step-longer}
 use Rattle.souper_embedding.proofs.search.expand.Goals as goal
 
@@ -32,7 +33,7 @@ loop-left-preserved c =
       longer = λ y m. step-longer c.args.state.now q c.loop-left.found.items c.in_ok-next.next c.loop-left.invariant.longer c.in_ok-next.ensures.longer y (subst (λ (z : List Embedding). Has z y) new m);
       next = λ i j is wl state. subst (λ (z : List Embedding). AreNext (stored_of c.args.search.now) (query_of c.args.search.now) i j given c.args.state.now k z) (sym new)
           (next-step (stored_of c.args.search.now) (query_of c.args.search.now) i j given c.args.state.now c.loop-left.left k q c.loop-left.found.items c.in_ok-next.next is.given next at
-          (c.loop-left.invariant.next i j is wl state) (c.in_ok-next.ensures.next i j is wl state) (λ f images rest t e. c.in_ok-next.ensures.forced i j f images rest is wl state t e));
+          (c.loop-left.invariant.next i j is wl state) (c.in_ok-next.ensures.next i j is wl state (is.given.first q (number-has given k l)).first) (λ f images rest t e. c.in_ok-next.ensures.forced i j f images rest is wl state t e));
     }
 
 pub returns-clause-few : goal.returns-clause-few

@@ -13,8 +13,8 @@ loop-state-init c = λ i j is wl state none.
     let all = c.in_ok-push.ensures.items ∙ ap (λ (z : List Embedding). z ++ c.args.start ∷ []) c.new-waiting.ensures.items in
     subst (λ (z : List Embedding). AreWaiting (stored_of c.args.search.now) (query_of c.args.search.now) i j c.args.start z) (sym all) (waiting-start (stored_of c.args.search.now) (query_of c.args.search.now) i j c.args.start none state)
 
-pub expand-next-requires : goal.expand-next-requires
-expand-next-requires c = subst (λ (z : List ℕ). length z < length c.args.search.now.conditions.now) c.as_slice.ensures.value (c.is_whole.ensures.part c.if-is_whole.false)
+pub expand-requires : goal.expand-requires
+expand-requires c = subst (λ (z : List ℕ). length z < length c.args.search.now.conditions.now) c.as_slice.ensures.value (c.is_whole.ensures.part c.if-is_whole.false)
 
 pub loop-state-preserved : goal.loop-state-preserved
 loop-state-preserved c = λ i j is wl state none.

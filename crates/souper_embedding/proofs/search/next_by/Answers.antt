@@ -10,22 +10,22 @@ use Rattle.souper_embedding.proofs.search.next_by.Goals as goal
 abbrev Map : Type 0
 Map = Vec (Option ℕ) Global
 
-pub returns-in-Some-clause-longer : goal.returns-in-Some-clause-longer
-returns-in-Some-clause-longer c = c.in_ok-images.ensures ∙ ap (λ (z : List ℕ). z ++ c.args.q ∷ []) c.as_slice.ensures.value
+pub returns-in_ok-images-in-Some-clause-longer : goal.returns-in_ok-images-in-Some-clause-longer
+returns-in_ok-images-in-Some-clause-longer c = c.in_ok-images-in-Some.ensures ∙ ap (λ (z : List ℕ). z ++ c.args.q ∷ []) c.as_slice.ensures.value
 
-pub returns-in-Some-clause-next : goal.returns-in-Some-clause-next
-returns-in-Some-clause-next c = λ i j is wl state first.
+pub returns-in_ok-images-in-Some-clause-next : goal.returns-in_ok-images-in-Some-clause-next
+returns-in_ok-images-in-Some-clause-next c = λ i j is wl state first.
     let ss = stored_of c.args.search.now in
     let qs = query_of c.args.search.now in
     let x = c.args.state.now in
     let at = at-next ss qs i j x c.args.search.now.conditions.now c.deref.result.now c.len.result c.deref.ensures.value (c.len.ensures ∙ c.args.state.now.images.ok.0) wl is.conditions c.requires state in
     let met = subst (λ (o : Option Map). IfSome o (λ next. (i j : PlainInfer) (k : ℕ) → IsAtCondition ss qs i j c.deref.result.now k (get_or c.args.search.now.conditions.now c.len.result 0)
     → IsMet ss qs i j c.deref.result.now next.items k (get_or c.args.search.now.conditions.now c.len.result 0) c.args.q)) c.in-Some.is c.in_ok-map.ensures.met in
-    next-state ss qs i j x (record { map = c.in-Some.map; images = c.in_ok-images.images }) c.deref.result.now (get_or c.args.search.now.conditions.now c.len.result 0) c.args.q c.deref.ensures.value at state
-    (met i j (length x.images.items) at) (c.in_ok-images.ensures ∙ ap (λ (z : List ℕ). z ++ c.args.q ∷ []) c.as_slice.ensures.value) first
+    next-state ss qs i j x (record { map = c.in-Some.map; images = c.in_ok-images-in-Some.images }) c.deref.result.now (get_or c.args.search.now.conditions.now c.len.result 0) c.args.q c.deref.ensures.value at state
+    (met i j (length x.images.items) at) (c.in_ok-images-in-Some.ensures ∙ ap (λ (z : List ℕ). z ++ c.args.q ∷ []) c.as_slice.ensures.value) first
 
-pub returns-in-Some-clause-forced : goal.returns-in-Some-clause-forced
-returns-in-Some-clause-forced c = λ i j f images rest is wl state t e.
+pub returns-in_ok-images-in-Some-clause-forced : goal.returns-in_ok-images-in-Some-clause-forced
+returns-in_ok-images-in-Some-clause-forced c = λ i j f images rest is wl state t e.
     let ss = stored_of c.args.search.now in
     let qs = query_of c.args.search.now in
     let x = c.args.state.now in
