@@ -1,6 +1,5 @@
 -- The first embedding is determined: its map, and where it takes the path conditions.
-use Rattle.std.proofs.Common.{◌≡◌, ℕ, zero, suc, ◌+◌, ◌<◌, ◌⊎◌, inl, inr, length, List, [], ◌∷◌, Option, Some, None, refl, sym, ap, ◌∙◌, subst, arith}
-use Rattle.std.specs.Prelude.{slice_get}
+use Rattle.std.proofs.Common.{◌≡◌, ℕ, suc, ◌⊎◌, inl, inr, length, List, [], ◌∷◌, Option, Some, None, refl, sym, ap, ◌∙◌, subst, arith}
 use Rattle.std.proofs.lemmas.Option.{same_Some}
 use Rattle.std.proofs.lemmas.Bool.{cases_order}
 use Rattle.souper_graph.specs.Values.{Item}
@@ -9,7 +8,6 @@ use Rattle.souper_embedding.specs.Images.{AreImages, Precedes, IsEmbedding, IsLa
 use Rattle.souper_embedding.specs.Maps.{GoesTo, Follows}
 use Rattle.souper_embedding.proofs.Listing.{one-list}
 use Rattle.souper_embedding.proofs.Starting.{total_of, total-follows}
-use Rattle.souper_embedding.proofs.Walking.{one-image}
 
 precedes-or : (ds es : List ℕ) → length ds ≡ length es → (ds ≡ es) ⊎ (Precedes ds es ⊎ Precedes es ds)
 precedes-or [] [] l = inl refl

@@ -1,10 +1,10 @@
 -- The first embedding of a stored replacement: from lists of statements to items.
-use Rattle.std.proofs.Common.{◌≡◌, ◌↔◌, ℕ, zero, suc, ◌+◌, ◌≤◌, ◌++◌, ◌⊎◌, inl, inr, arith, length, take, List, [], ◌∷◌, Option, Some, None, Bool, true, false, refl, sym, ap, ◌∙◌, subst}
+use Rattle.std.proofs.Common.{◌≡◌, ◌↔◌, ℕ, zero, suc, ◌≤◌, ◌⊎◌, inl, inr, arith, length, take, List, [], ◌∷◌, Option, Some, None, Bool, true, false, refl, sym, ap, ◌∙◌, subst}
 use Rattle.std.specs.Prelude.{slice_get, IsTrue, Result, Ok, Err, IfOk, IfSome, IsSomeAnd, MatchOption}
 use Rattle.std.proofs.lemmas.Option.{same_Some, slice_get_within}
 use Rattle.souper_graph.specs.declared.ast.operands.Operand.{Operand}
-use Rattle.souper_graph.specs.Values.{PlainAssignment, PlainStatement, assigned, PlainInfer, inferred, replaced, Item}
-use Rattle.souper_graph.specs.Uses.{Has, is_condition, conditions_from, Needed, NeededIn}
+use Rattle.souper_graph.specs.Values.{PlainStatement, assigned, PlainInfer, inferred, replaced, Item}
+use Rattle.souper_graph.specs.Uses.{Has, is_condition, Needed, NeededIn}
 use Rattle.souper_graph.specs.WellFormed.{WellFormed, IsAssigned}
 use Rattle.souper_graph.specs.Sameness.{carried}
 use Rattle.souper_graph.specs.LeftSides.{infer_of, with_infer}
@@ -13,8 +13,8 @@ use Rattle.souper_graph.proofs.Sameness.Carrying.{condition-carried}
 use Rattle.souper_embedding.specs.declared.search.Embedding.{Embedding}
 use Rattle.souper_embedding.specs.Embedding.{WantsWithin, EmbedsLeft, Embeds}
 use Rattle.souper_embedding.specs.Given.{AreGiven}
-use Rattle.souper_embedding.specs.Images.{GoThere, AreFirstOfEqual, IsFirstOfEqual, AreImages, Precedes, IsKnownOnLeft, IsEmbedding, IsLater, IsFirst}
-use Rattle.souper_embedding.specs.Listing.{AreOrdered, IsAmong, IsPast, AreFirst}
+use Rattle.souper_embedding.specs.Images.{GoThere, AreFirstOfEqual, IsFirstOfEqual, IsEmbedding, IsLater, IsFirst}
+use Rattle.souper_embedding.specs.Listing.{AreOrdered, IsAmong, AreFirst}
 use Rattle.souper_embedding.specs.Maps.{GoesTo, Follows}
 use Rattle.souper_embedding.specs.Search.{conditions_in, walks_with, left_item, IsReached}
 use Rattle.souper_embedding.specs.declared.search.Embeddings.{Embeddings}

@@ -1,11 +1,10 @@
 -- The embeddings that were found and the states that wait: one expanded, one found, and the end.
-use Rattle.std.proofs.Common.{◌≡◌, ℕ, zero, suc, ◌+◌, ◌<◌, ◌≤◌, ◌++◌, ◌⊎◌, inl, inr, length, List, [], ◌∷◌, Option, Some, Bool, true, false, refl, sym, ap, ◌∙◌, subst, arith}
+use Rattle.std.proofs.Common.{◌≡◌, ℕ, suc, ◌<◌, ◌≤◌, ◌++◌, ◌⊎◌, inl, inr, length, List, [], ◌∷◌, Some, true, false, refl, sym, ap, ◌∙◌, subst, arith}
 use Rattle.std.specs.Prelude.{slice_get}
-use Rattle.std.proofs.lemmas.Option.{same_Some, slice_get_within}
+use Rattle.std.proofs.lemmas.Option.{slice_get_within}
 use Rattle.souper_graph.specs.Values.{PlainStatement, PlainInfer}
 use Rattle.souper_graph.specs.Uses.{Has}
 use Rattle.souper_graph.specs.WellFormed.{WellFormed}
-use Rattle.souper_graph.specs.Sameness.{carried}
 use Rattle.souper_graph.proofs.Lists.{Has-left, Has-right, Has-cases}
 use Rattle.souper_embedding.specs.declared.search.Embedding.{Embedding}
 use Rattle.souper_embedding.specs.Embedding.{WantsWithin, EmbedsLeft}
@@ -15,7 +14,7 @@ use Rattle.souper_embedding.specs.Listing.{AreOrdered, IsAmong}
 use Rattle.souper_embedding.specs.Maps.{Follows}
 use Rattle.souper_embedding.specs.Search.{conditions_in, left_item}
 use Rattle.souper_embedding.specs.declared.search.Embeddings.{Embeddings}
-use Rattle.souper_embedding.specs.States.{IsState, IsNext, IsTarget, IsStacked, AreNext, IsAwaited, IsStart, AllFollow, NoneEmbeds, AreSearched, IsPastAll, AreFirstFor}
+use Rattle.souper_embedding.specs.States.{IsState, IsTarget, AreNext, IsAwaited, AllFollow, NoneEmbeds, AreSearched, IsPastAll, AreFirstFor}
 use Rattle.souper_embedding.proofs.ConditionLists.{condition-in}
 use Rattle.souper_embedding.proofs.Precedence.{precedes-more, precedes-longer}
 use Rattle.souper_embedding.proofs.Searching.{has-at, reached-embeds}

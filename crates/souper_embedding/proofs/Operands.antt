@@ -1,7 +1,7 @@
 -- The operands of a statement, one after another.
 use Rattle.std.proofs.Common.{◌≡◌, ℕ, zero, suc, ◌+◌, ◌<◌, ◌++◌, length, map, take, get_or, List, [], ◌∷◌, Option, Some, refl, sym, ap, ◌∙◌, subst, inl, append-nil, arith}
 use Rattle.std.specs.Prelude.{slice_get}
-use Rattle.std.proofs.lemmas.Option.{same_Some, slice_get_read}
+use Rattle.std.proofs.lemmas.Option.{slice_get_read}
 use Rattle.std.proofs.lemmas.List.{map-append}
 use Rattle.std.proofs.lemmas.Grind.{flat_map-append}
 use Rattle.souper_graph.specs.declared.ast.operands.Operand.{Operand}

@@ -1,9 +1,9 @@
 -- What a map that was reached says of the left-hand side, and which maps are reached.
-use Rattle.std.proofs.Common.{◌≡◌, ℕ, zero, suc, ◌+◌, ◌++◌, ◌⊎◌, inl, inr, length, map, take, List, [], ◌∷◌, Option, Some, None, true, false, refl, sym, ap, ◌∙◌, subst}
+use Rattle.std.proofs.Common.{◌≡◌, ℕ, zero, suc, ◌++◌, ◌⊎◌, inl, inr, length, map, take, List, [], ◌∷◌, Option, Some, None, true, false, refl, sym, ap, ◌∙◌, subst}
 use Rattle.std.specs.Prelude.{slice_get, IsTrue, flat_map}
 use Rattle.std.proofs.lemmas.Option.{same_Some}
 use Rattle.souper_graph.specs.Values.{PlainAssignment, PlainStatement, assigned, condition, block_condition, PlainInfer, inferred, Item}
-use Rattle.souper_graph.specs.Uses.{Has, Use, value_use, block_use, position_of, uses_of, uses_of_optional, used_at, is_condition, conditions, Needed, walked, used, NeededIn}
+use Rattle.souper_graph.specs.Uses.{Has, Use, value_use, block_use, position_of, uses_of, uses_of_optional, used_at, is_condition, Needed, walked, used, NeededIn}
 use Rattle.souper_graph.specs.WellFormed.{WellFormed, IsAssigned, IsBlock, IsMet, AreMet}
 use Rattle.souper_graph.specs.Sameness.{carried}
 use Rattle.souper_graph.specs.LeftSides.{with_infer}

@@ -1,9 +1,9 @@
 -- One path condition more: what the new map says, and that a function that embeds is followed.
-use Rattle.std.proofs.Common.{◌≡◌, ℕ, zero, suc, ◌+◌, ◌<◌, ◌≤◌, ◌++◌, ◌⊎◌, inl, inr, length, take, get_or, List, [], ◌∷◌, Option, Some, refl, sym, ap, ◌∙◌, subst, arith}
+use Rattle.std.proofs.Common.{◌≡◌, ℕ, zero, suc, ◌<◌, ◌++◌, ◌⊎◌, inl, inr, length, take, get_or, List, [], ◌∷◌, Option, Some, refl, sym, ap, ◌∙◌, subst, arith}
 use Rattle.std.specs.Prelude.{slice_get}
 use Rattle.std.proofs.lemmas.Option.{same_Some, slice_get_within, slice_get-get_or}
 use Rattle.souper_graph.specs.Values.{PlainStatement, PlainInfer}
-use Rattle.souper_graph.specs.Uses.{Has, conditions_from, used_at, walked, used, NeededIn}
+use Rattle.souper_graph.specs.Uses.{conditions_from, used_at, walked, used, NeededIn}
 use Rattle.souper_graph.specs.WellFormed.{WellFormed}
 use Rattle.souper_graph.specs.Sameness.{carried}
 use Rattle.souper_graph.proofs.Lists.{Has-left}

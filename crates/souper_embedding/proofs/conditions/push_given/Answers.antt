@@ -1,4 +1,4 @@
-use Rattle.std.proofs.Common.{◌≡◌, ℕ, ◌+◌, ◌++◌, List, [], ◌∷◌, sym, ◌∙◌, subst}
+use Rattle.std.proofs.Common.{ℕ, ◌+◌, List, sym, ◌∙◌, subst}
 use Rattle.std.specs.Prelude.{map}
 use Rattle.souper_graph.specs.Uses.{Has}
 use Rattle.souper_graph.specs.View.{view_statement}

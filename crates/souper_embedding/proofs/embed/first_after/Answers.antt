@@ -1,4 +1,4 @@
-use Rattle.std.proofs.Common.{◌≡◌, ℕ, List, map, sym, ◌∙◌, subst}
+use Rattle.std.proofs.Common.{ℕ, List, map, sym, ◌∙◌, subst}
 use Rattle.souper_graph.specs.View.{view_statement}
 use Rattle.souper_embedding.specs.Given.{AreGiven}
 use Rattle.souper_embedding.proofs.Firsts.{first-after}

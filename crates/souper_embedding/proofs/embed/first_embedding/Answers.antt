@@ -1,6 +1,6 @@
-use Rattle.std.proofs.Common.{◌≡◌, ℕ, refl, sym, ap, ◌∙◌, subst}
+use Rattle.std.proofs.Common.{◌≡◌, refl, sym, ap, ◌∙◌, subst}
 use Rattle.souper_graph.specs.declared.ast.items.Replacement.{Replacement}
-use Rattle.souper_graph.specs.declared.ast.items.Replacement.TheVariants.{LhsRhs, Cand}
+use Rattle.souper_graph.specs.declared.ast.items.Replacement.TheVariants.{LhsRhs}
 use Rattle.souper_graph.specs.Values.{replaced, candidate}
 use Rattle.souper_graph.specs.View.{view_infer, view_cand, view_left_hand_side, view_replacement}
 use Rattle.souper_graph.specs.WellFormed.{WellFormed}

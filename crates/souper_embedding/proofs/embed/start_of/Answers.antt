@@ -1,4 +1,4 @@
-use Rattle.std.proofs.Common.{◌≡◌, List, map, true, false, sym, ap, ◌∙◌, subst}
+use Rattle.std.proofs.Common.{◌≡◌, List, map, true, false, sym, ◌∙◌, subst}
 use Rattle.souper_graph.specs.declared.ast.attributes.RootAttribute.{RootAttribute}
 use Rattle.souper_graph.specs.View.{view_statement, view_infer, view_root_attribute}
 use Rattle.souper_embedding.specs.Embedding.{WantsWithin}

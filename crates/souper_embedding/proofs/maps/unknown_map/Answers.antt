@@ -1,4 +1,4 @@
-use Rattle.std.proofs.Common.{◌≡◌, ◌+◌, List, [], length, Option, ℕ, sym, ap, ◌∙◌, subst, arith}
+use Rattle.std.proofs.Common.{List, length, Option, ℕ, sym, ap, ◌∙◌, subst}
 use Rattle.souper_embedding.specs.Maps.{IsUnknown}
 use Rattle.souper_embedding.proofs.KnownMaps.{unknown-none, unknown-more, long-last}
 use Rattle.souper_embedding.proofs.maps.unknown_map.Goals as goal

@@ -1,7 +1,7 @@
 use Rattle.std.proofs.Common.{◌≡◌, ℕ, ◌+◌, ◌<◌, List, length, get_or, true, false, Option, Some, None, refl, sym, ap, ◌∙◌, subst, arith}
 use Rattle.std.specs.Prelude.{slice_get}
 use Rattle.std.proofs.lemmas.Option.{slice_get-get_or, slice_get_within}
-use Rattle.souper_embedding.specs.Maps.{GoesTo, Follows}
+use Rattle.souper_embedding.specs.Maps.{Follows}
 use Rattle.souper_embedding.proofs.Inverses.{Inverts, inverse, inverse-is, inverts-more, inverts-past}
 use Rattle.souper_embedding.proofs.Walking.{one-image}
 use Rattle.souper_embedding.proofs.roots.invert.Goals as goal
@@ -39,11 +39,11 @@ loop-p-preserved c = elim c.match-to-p.branch [
             (w.bind.ensures.forced (inverse c.args.to.now) (c.loop-p.invariant.forced empty one inside) (inverse-is c.args.to.now c.loop-p.p w.in-Some.q one at) l).1);
       })
   | in_default w ↦ record {
-      long = ap length w.from-is ∙ c.loop-p.invariant.long;
-      inverts = subst (λ (z : List (Option ℕ)). Inverts c.args.to.now z (c.loop-p.p + 1)) (sym w.from-is)
-          (inverts-past c.args.to.now c.loop-p.from c.loop-p.p (goes c.args.to.now c.loop-p.p None c.loop-p-test.true w.in_default.is) c.loop-p.invariant.inverts);
-      forced = λ empty one inside. subst (λ (z : List (Option ℕ)). Follows z (inverse c.args.to.now)) (sym w.from-is) (c.loop-p.invariant.forced empty one inside);
-    }
+    long = ap length w.from-is ∙ c.loop-p.invariant.long;
+    inverts = subst (λ (z : List (Option ℕ)). Inverts c.args.to.now z (c.loop-p.p + 1)) (sym w.from-is)
+        (inverts-past c.args.to.now c.loop-p.from c.loop-p.p (goes c.args.to.now c.loop-p.p None c.loop-p-test.true w.in_default.is) c.loop-p.invariant.inverts);
+    forced = λ empty one inside. subst (λ (z : List (Option ℕ)). Follows z (inverse c.args.to.now)) (sym w.from-is) (c.loop-p.invariant.forced empty one inside);
+  }
 ]
 
 pub returns-clause-sound : goal.returns-clause-sound

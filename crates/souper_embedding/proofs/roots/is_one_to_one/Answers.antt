@@ -1,4 +1,4 @@
-use Rattle.std.proofs.Common.{◌≡◌, ℕ, ◌<◌, List, length, Option, sym, ap, ◌∙◌, subst}
+use Rattle.std.proofs.Common.{ℕ, ◌<◌, List, length, Option, sym, ap, ◌∙◌, subst}
 use Rattle.souper_embedding.specs.Maps.{IsUnknown}
 use Rattle.souper_embedding.proofs.roots.is_one_to_one.Goals as goal
 

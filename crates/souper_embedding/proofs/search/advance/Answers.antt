@@ -1,8 +1,8 @@
-use Rattle.std.proofs.Common.{◌≡◌, ◌+◌, ◌<◌, ◌≤◌, ◌++◌, ℕ, suc, List, [], ◌∷◌, length, inl, refl, sym, ap, ◌∙◌, subst, arith}
+use Rattle.std.proofs.Common.{◌<◌, ◌≤◌, ◌++◌, ℕ, suc, List, [], ◌∷◌, length, inl, refl, sym, ap, ◌∙◌, subst, arith}
 use Rattle.souper_graph.proofs.Lists.{Has-right}
 use Rattle.souper_embedding.specs.declared.search.Embedding.{Embedding}
 use Rattle.souper_embedding.specs.Search.{conditions_in}
-use Rattle.souper_embedding.specs.States.{stored_of, query_of, AreSearched, work_in}
+use Rattle.souper_embedding.specs.States.{stored_of, query_of, AreSearched}
 use Rattle.souper_embedding.proofs.Listing.{searched-next, searched-found, one-longer-list}
 use Rattle.souper_embedding.proofs.Work.{work-less, work-taken}
 use Rattle.souper_embedding.proofs.search.advance.Goals as goal

@@ -1,8 +1,6 @@
 use Rattle.std.proofs.Common.{◌≡◌, ◌<◌, ◌≤◌, ◌++◌, ℕ, List, [], ◌∷◌, length, true, false, rules, refl, sym, ap, ◌∙◌, subst, arith}
 use Rattle.souper_embedding.specs.declared.search.Embedding.{Embedding}
-use Rattle.souper_embedding.specs.declared.search.Embeddings.{Embeddings}
-use Rattle.souper_embedding.specs.Search.{conditions_in}
-use Rattle.souper_embedding.specs.States.{stored_of, query_of, IsStart, AreSearched, AreFirstFor, work_in}
+use Rattle.souper_embedding.specs.States.{stored_of, query_of, AreSearched, work_in}
 use Rattle.souper_embedding.proofs.Listing.{searched-start, all-found, cut-found}
 use Rattle.souper_embedding.proofs.search.all_from.Goals as goal
 

@@ -1,5 +1,4 @@
-use Rattle.std.proofs.Common.{◌≡◌, ℕ, ◌<◌, ◌≤◌, ◌++◌, List, [], ◌∷◌, length, inl, rules, refl, sym, ap, ◌∙◌, subst, arith}
-use Rattle.souper_graph.specs.Values.{PlainInfer}
+use Rattle.std.proofs.Common.{◌≡◌, ℕ, ◌<◌, ◌≤◌, ◌++◌, List, [], ◌∷◌, length, inl, rules, refl, sym, ap, ◌∙◌, subst}
 use Rattle.souper_graph.proofs.Lists.{Has-right}
 use Rattle.souper_embedding.specs.declared.search.Embedding.{Embedding}
 use Rattle.souper_embedding.specs.Search.{conditions_in}

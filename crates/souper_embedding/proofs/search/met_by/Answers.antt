@@ -1,4 +1,4 @@
-use Rattle.std.proofs.Common.{◌≡◌, ℕ, List, length, true, false, Option, rules, sym, ◌∙◌, subst}
+use Rattle.std.proofs.Common.{◌≡◌, ℕ, List, true, false, Option, rules, sym, ◌∙◌, subst}
 use Rattle.std.proofs.lemmas.List.{with_items_is, places}
 use Rattle.souper_embedding.specs.Maps.{Follows}
 use Rattle.souper_embedding.specs.Search.{IsAtCondition, IsMet, IsTaken}

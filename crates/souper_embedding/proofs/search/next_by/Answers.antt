@@ -1,8 +1,8 @@
-use Rattle.std.proofs.Common.{◌≡◌, ℕ, ◌<◌, List, [], ◌∷◌, ◌++◌, length, get_or, Option, Vec, Global, sym, ap, ◌∙◌, subst}
+use Rattle.std.proofs.Common.{ℕ, List, [], ◌∷◌, ◌++◌, length, get_or, Option, Vec, Global, ap, ◌∙◌, subst}
 use Rattle.std.specs.Prelude.{IfSome, IsSomeAnd}
 use Rattle.souper_graph.specs.Values.{PlainInfer}
 use Rattle.souper_embedding.specs.Maps.{Follows}
-use Rattle.souper_embedding.specs.Search.{IsAtCondition, IsMet, IsTaken}
+use Rattle.souper_embedding.specs.Search.{IsAtCondition, IsMet}
 use Rattle.souper_embedding.specs.States.{stored_of, query_of}
 use Rattle.souper_embedding.proofs.States.{at-next, next-state, target-taken}
 use Rattle.souper_embedding.proofs.search.next_by.Goals as goal

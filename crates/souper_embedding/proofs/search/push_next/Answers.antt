@@ -1,4 +1,4 @@
-use Rattle.std.proofs.Common.{◌≡◌, ◌++◌, Option, sym, ap, ◌∙◌, append-nil}
+use Rattle.std.proofs.Common.{◌++◌, Option, sym, ap, ◌∙◌, append-nil}
 use Rattle.std.specs.Option.{option_to_list}
 use Rattle.souper_embedding.specs.declared.search.Embedding.{Embedding}
 use Rattle.souper_embedding.proofs.search.push_next.Goals as goal
