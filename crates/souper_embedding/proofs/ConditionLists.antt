@@ -69,3 +69,11 @@ from-has (x ∷ ss) k (suc n) s e t =
 
 pub has-condition : (ss : List PlainStatement) (c : ℕ) (s : PlainStatement) → slice_get ss c ≡ Some s → IsTrue (is_condition s) → Has (conditions_from 0 ss) c
 has-condition ss c s e t = let q : 0 + c ≡ c = omega arith in subst (λ i. Has (conditions_from 0 ss) i) q (from-has ss 0 c s e t)
+
+-- one more statement, which is a condition or not
+pub conditions-more : (ss : List PlainStatement) (n : ℕ) (s : PlainStatement) (b : Bool) → slice_get ss n ≡ Some s → b ≡ is_condition s → conditions_from 0 (take (n + 1) ss) ≡ conditions_from 0 (take n ss) ++ cond b (n ∷ []) []
+conditions-more ss n s b e same =
+    let q : n + 1 ≡ suc n = omega arith in
+    let z : 0 + n ≡ n = omega arith in
+    ap (λ j. conditions_from 0 (take j ss)) q ∙ conditions-next ss 0 n s e ∙ ap (λ j. conditions_from 0 (take n ss) ++ cond (is_condition s) (j ∷ []) []) z
+    ∙ ap (λ v. conditions_from 0 (take n ss) ++ cond v (n ∷ []) []) (sym same)

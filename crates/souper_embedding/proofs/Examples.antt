@@ -1,17 +1,19 @@
 -- The worked examples: which left-hand sides a replacement answers.
-use Rattle.std.proofs.Common.{◌≡◌, ℕ, zero, suc, ◌+◌, ◌<◌, inl, inr, length, true, false, List, [], ◌∷◌, codes, Bool, Some, refl, sym, ap, ◌∙◌, subst, arith}
+use Rattle.std.proofs.Common.{◌≡◌, ℕ, zero, suc, ◌+◌, ◌<◌, ◌⊎◌, inl, inr, length, true, false, List, [], ◌∷◌, codes, Bool, Option, Some, None, refl, sym, ap, ◌∙◌, subst, arith}
 use Rattle.std.specs.Prelude.{IsTrue, slice_get, pos}
 use Rattle.std.proofs.lemmas.Option.{same_Some}
+use Rattle.souper_graph.specs.declared.ast.operands.«Type».{«Type» as Ty}
 use Rattle.souper_graph.specs.declared.ast.operands.Operand.{Operand}
 use Rattle.souper_graph.specs.declared.ast.operands.Operand.TheVariants.{Value, Constant}
 use Rattle.souper_graph.specs.declared.ast.operands.Constant.{Constant as ConstantNode}
+use Rattle.souper_graph.specs.declared.ast.instructions.Instruction.TheVariants.{Sub}
 use Rattle.souper_graph.specs.declared.ast.statements.Pc.{Pc}
 use Rattle.souper_graph.specs.declared.ast.statements.BlockPc.{BlockPc}
-use Rattle.souper_graph.specs.Values.{PlainAttribute, negative, non_zero, has_external_uses, var, PlainRootAttribute, demanded_bits, PlainAssignment, PlainStatement, assigned, condition, block_condition, PlainInfer, inferred, replaced, Item}
+use Rattle.souper_graph.specs.Values.{PlainAttribute, negative, non_zero, has_external_uses, var, instruction, PlainRootAttribute, demanded_bits, PlainAssignment, PlainStatement, assigned, condition, block_condition, PlainInfer, inferred, replaced, Item}
 use Rattle.souper_graph.specs.Uses.{Has, is_condition, Needed, walked, used, used_at}
 use Rattle.souper_graph.specs.Sameness.{carried}
 use Rattle.souper_embedding.specs.Embedding.{HasFacts, StandsFor, WantsWithin, EmbedsLeft, Embeds}
-use Rattle.souper_embedding.specs.Examples.{byte, holds, fails, number, stored, query, turned, joined_stored, joined_query, apart_stored, apart_query, first_map, second_map}
+use Rattle.souper_embedding.specs.Examples.{byte, merged_stored, merged_query, merged_map, paired_stored, paired_query, wide_query, holds, fails, number, stored, query, turned, joined_stored, joined_query, apart_stored, apart_query, first_map, second_map}
 
 -- the first n of these statements, of which the first is at position k, stand for others
 abbrev Stand : (ℕ → ℕ) → List PlainStatement → ℕ → ℕ → List PlainStatement → Type 0
@@ -322,3 +324,81 @@ second = apart-embeds second_map refl (λ p r e. sym (twice p) ∙ ap second_map
     ),
   ),
 )
+
+-- ---- one-to-one on what the root needs, and there alone
+
+merged-uses : (i j : ℕ) → (i ≡ 3) ⊎ (i ≡ 4) → Has (used_at merged_stored.statements i) j → (j ≡ 3) ⊎ (j ≡ 4)
+merged-uses i j (inl e) h = absurd (subst (λ z. Has (used_at merged_stored.statements z) j) e h)
+merged-uses i j (inr e) h = elim (subst (λ z. Has (used_at merged_stored.statements z) j) e h) [ inl s ↦ inl (sym s) | inr n ↦ absurd n ]
+
+merged-needed : {p : ℕ} → Needed merged_stored.statements (4 ∷ []) p → (p ≡ 3) ⊎ (p ≡ 4)
+merged-needed (walked {i = i} (inl e)) = inr (sym e)
+merged-needed (walked {i = i} (inr h)) = absurd h
+merged-needed (used {i = i} {j = j} n h) = merged-uses i j (merged-needed n) h
+
+merged-one : (p r : ℕ) → (p ≡ 3) ⊎ (p ≡ 4) → (r ≡ 3) ⊎ (r ≡ 4) → merged_map p ≡ merged_map r → p ≡ r
+merged-one p r (inl a) (inl b) e = a ∙ sym b
+merged-one p r (inl a) (inr b) e = absurd (let z : 0 ≡ 3 = sym (ap merged_map a) ∙ e ∙ ap merged_map b in omega arith)
+merged-one p r (inr a) (inl b) e = absurd (let z : 3 ≡ 0 = sym (ap merged_map a) ∙ e ∙ ap merged_map b in omega arith)
+merged-one p r (inr a) (inr b) e = a ∙ sym b
+
+merged-stand : Stand merged_map merged_query.statements 0 5 merged_stored.statements
+merged-stand = (
+  (_, refl, record { ty = refl; value = refl; facts = λ f h n. h }),
+  (
+    (_, refl, record { ty = refl; value = refl; facts = λ f h n. h }),
+    (
+      inr (inr (inl refl)),
+      ((_, refl, record { ty = refl; value = refl; facts = λ f h n. h }), ((_, refl, record { ty = refl; value = refl; facts = λ f h n. h }), tt)),
+    ),
+  ),
+)
+
+pub merged : Embeds merged_stored merged_query merged_map
+merged = record {
+  infer = record { value = 4; attributes = [] };
+  result = number 0;
+  stored = refl;
+  root = record { value = 3; attributes = [] };
+  query = refl;
+  left = record {
+    root = refl;
+    one_to_one = λ p r m n e. merged-one p r (merged-needed m) (merged-needed n) e;
+    assignments = λ p a m e. let z : 0 + p ≡ p = omega arith in subst (λ m. AtPosition merged_map merged_query.statements m a) z (stand-at merged_map merged_query.statements 0 5 merged_stored.statements merged-stand p a (inside merged_stored.statements p (assigned a) e) e);
+    conditions = λ p c e t. met-at merged_map merged_query.statements 0 5 merged_stored.statements merged-stand p c (inside merged_stored.statements p c e) e t;
+    wanted = no-unwanted [];
+  };
+}
+
+differ : (a b : ℕ) → a < b → a ≡ b → ⊥
+differ a b l e = omega arith
+
+pub inputs : (to : ℕ → ℕ) → ¬ Embeds paired_stored paired_query to
+inputs to h =
+    let l = left-of paired_stored paired_query (record { value = 2; attributes = [] }) (record { value = 1; attributes = [] }) (number 0) to refl refl h in
+    let x = l.assignments 2 _ (walked (inl refl)) refl in
+    let b : PlainAssignment = record { name = codes "%1"; ty = None; value = instruction (Sub (Value 0) (Value 0)); attributes = [] } in
+    let y : Some (assigned x.0) ≡ Some (assigned b) = sym x.1 ∙ ap (slice_get paired_query.statements) l.root in
+    let z : x.0 ≡ b = cc in
+    let v : instruction (Sub (Value 0) (Value 0)) ≡ instruction (Sub (Value (to 0)) (Value (to 1))) = subst (λ (k : PlainAssignment). k.value ≡ instruction (Sub (Value (to 0)) (Value (to 1)))) z x.2.value in
+    let first : 0 ≡ to 0 = cc in
+    let second : 0 ≡ to 1 = cc in
+    differ 0 1 (omega arith) (l.one_to_one 0 1 (used (walked (inl refl)) (inl refl)) (used (walked (inl refl)) (inr (inl refl))) (sym first ∙ second))
+
+width_of : Option Ty → ℕ
+width_of None = 0
+width_of (Some t) = t.width
+
+pub width : (to : ℕ → ℕ) → ¬ Embeds (stored [] [] []) wide_query to
+unfolding width_of
+width to h =
+    let l = left-of (stored [] [] []) wide_query (record { value = 1; attributes = [] }) (record { value = 1; attributes = [] }) (number 0) to refl refl h in
+    let s = root-at (stored [] [] []) wide_query (record { value = 1; attributes = [] }) (record { value = 1; attributes = [] }) to _ _ l refl refl refl refl in
+    let e = s.value in
+    let at : 0 ≡ to 0 = cc in
+    let x = l.assignments 0 _ (used (walked (inl refl)) (inl refl)) refl in
+    let b : PlainAssignment = record { name = codes "%0"; ty = Some (record { width = 16 }); value = var; attributes = [] } in
+    let y : Some (assigned x.0) ≡ Some (assigned b) = sym x.1 ∙ ap (slice_get wide_query.statements) (sym at) in
+    let z : x.0 ≡ b = cc in
+    let t : b.ty ≡ byte = subst (λ (k : PlainAssignment). k.ty ≡ byte) z x.2.ty in
+    differ 8 16 (omega arith) (sym (ap width_of t))

@@ -1,9 +1,11 @@
 -- A map that takes no two positions to one has an inverse.
-use Rattle.std.proofs.Common.{◌≡◌, ℕ, zero, suc, ◌+◌, List, [], ◌∷◌, Option, Some, None, Bool, true, false, refl, sym, ap, ◌∙◌, arith}
-use Rattle.std.specs.Prelude.{if◌then◌else◌, nat_eq}
+use Rattle.std.proofs.Common.{◌≡◌, ℕ, zero, suc, ◌+◌, ◌<◌, inl, inr, List, [], ◌∷◌, Option, Some, None, Bool, true, false, refl, sym, ap, ◌∙◌, subst, arith}
+use Rattle.std.specs.Prelude.{if◌then◌else◌, nat_eq, slice_get}
 use Rattle.std.proofs.lemmas.Option.{same_Some}
+use Rattle.std.proofs.lemmas.Bool.{cases_order}
 use Rattle.std.proofs.lemmas.Bool.Decides.{Decides-eqb}
-use Rattle.souper_embedding.specs.Maps.{GoesTo, IsOneToOne}
+use Rattle.souper_embedding.specs.Maps.{GoesTo, Binds, IsOneToOne}
+use Rattle.souper_embedding.proofs.Walking.{one-image}
 
 -- the first position that goes to q, if the first of these has position k
 abbrev pub inverse_from : ℕ → List (Option ℕ) → ℕ → ℕ
@@ -39,3 +41,23 @@ inverse-is m p q one g =
     let h = inverse-at 0 m p q g in
     let same : h.index ≡ p = one h.index p q h.there g in
     let z = h.is in omega arith
+
+-- ---- the inverse is written position by position
+
+-- each of the first n positions stands where its image is
+abbrev pub Inverts : List (Option ℕ) → List (Option ℕ) → ℕ → Type 0
+Inverts to from n = (p q : ℕ) → p < n → GoesTo to p q → GoesTo from q p
+
+pub inverts-more : (to from new : List (Option ℕ)) (p q : ℕ) → GoesTo to p q → Binds from new (q ∷ []) → GoesTo new q p → Inverts to from p → Inverts to new (p + 1)
+inverts-more to from new p q at b goes h r s l g = elim (cases_order r p) [
+  | inl e ↦ (
+      let same : q ≡ s = one-image to p q s at (subst (λ z. GoesTo to z s) e g) in
+      subst (λ z. GoesTo new s z) (sym e) (subst (λ z. GoesTo new z p) same goes))
+  | inr o ↦ elim o [ inl a ↦ b.kept s r (h r s a g) | inr a ↦ absurd (omega arith) ]
+]
+
+pub inverts-past : (to from : List (Option ℕ)) (p : ℕ) → slice_get to p ≡ Some None → Inverts to from p → Inverts to from (p + 1)
+inverts-past to from p none h r s l g = elim (cases_order r p) [
+  | inl e ↦ absurd (let z : slice_get to p ≡ Some (Some s) = subst (λ z. GoesTo to z s) e g in let y : Some None ≡ Some (Some s) = sym none ∙ z in let x : None ≡ Some s = same_Some None (Some s) y in cc)
+  | inr o ↦ elim o [ inl a ↦ h r s a g | inr a ↦ absurd (omega arith) ]
+]

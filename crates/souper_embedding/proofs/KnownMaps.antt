@@ -5,7 +5,7 @@ use Rattle.std.proofs.lemmas.Option.{same_Some}
 use Rattle.std.proofs.lemmas.Bool.{cases_order}
 use Rattle.souper_graph.specs.Uses.{Has}
 use Rattle.souper_graph.proofs.Lists.{Has-left, Has-right, Has-cases}
-use Rattle.souper_embedding.specs.Maps.{GoesTo, Follows, Binds}
+use Rattle.souper_embedding.specs.Maps.{GoesTo, Follows, Binds, IsUnknown}
 
 pub get-same : {X : Type 0} (xs : List X) (p : ℕ) (v : X) → p < length xs → slice_get (slice_set xs p v) p ≡ Some v
 get-same [] p v l = absurd (omega arith)
@@ -72,3 +72,20 @@ binds-both a b c ps rs h k = record {
 -- what follows the new map follows the old one
 pub follows-old : (a b : List (Option ℕ)) (ps : List ℕ) (f : ℕ → ℕ) → Binds a b ps → Follows b f → Follows a f
 follows-old a b ps f h w p q g = w p q (h.kept p q g)
+
+pub unknown-none : IsUnknown []
+unknown-none p q g = absurd (cc)
+
+-- one more position where the map is not known
+pub unknown-more : (m : List (Option ℕ)) → IsUnknown m → IsUnknown (m ++ None ∷ [])
+unknown-more [] h zero q g = absurd (let z : None ≡ Some q = same_Some None (Some q) g in cc)
+unknown-more [] h (suc p) q g = absurd (cc)
+unknown-more (x ∷ m) h zero q g = h zero q g
+unknown-more (x ∷ m) h (suc p) q g = unknown-more m (λ r s k. h (suc r) s k) p q g
+
+one-longer : (m : List (Option ℕ)) → length (m ++ None ∷ []) ≡ suc (length m)
+one-longer [] = refl
+one-longer (x ∷ m) = ap (λ z. suc z) (one-longer m)
+
+pub long-last : (m : List (Option ℕ)) (k : ℕ) → length m ≡ k → length (m ++ None ∷ []) ≡ k + 1
+long-last m k e = one-longer m ∙ (let z : suc (length m) ≡ k + 1 = omega arith in z)

@@ -1,3 +1,4 @@
+pub mod Instructions
 pub mod Examples
 pub mod KnownMaps
 pub mod Operands
@@ -10,3 +11,11 @@ pub mod Starting
 pub mod Listed
 pub mod Wanting
 pub mod Assignments
+pub mod States
+pub mod Given
+pub mod Precedence
+pub mod Stacks
+pub mod Work
+pub mod Firsts
+pub mod Listing
+pub mod Determined

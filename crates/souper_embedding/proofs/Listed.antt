@@ -1,5 +1,5 @@
 -- The elements that a loop has passed.
-use Rattle.std.proofs.Common.{◌≡◌, ℕ, zero, suc, ◌+◌, ◌<◌, ◌≤◌, ◌++◌, ◌⊎◌, inl, inr, length, map, take, get_or, List, [], ◌∷◌, refl, sym, ap, ◌∙◌, subst, arith}
+use Rattle.std.proofs.Common.{◌≡◌, ℕ, zero, suc, ◌+◌, ◌<◌, ◌⊎◌, inl, inr, length, map, take, get_or, List, [], ◌∷◌, sym, ap, ◌∙◌, subst, arith}
 use Rattle.souper_graph.specs.Uses.{Has}
 
 pub has-item : {X Y : Type 0} (v : X → Y) (xs : List X) (k : ℕ) (x : X) → k < length xs → x ≡ get_or xs k x → Has (map v xs) (v x)

@@ -1,7 +1,7 @@
 -- The operands of a statement, one after another.
 use Rattle.std.proofs.Common.{◌≡◌, ℕ, zero, suc, ◌+◌, ◌<◌, ◌++◌, length, map, take, get_or, List, [], ◌∷◌, Option, Some, refl, sym, ap, ◌∙◌, subst, inl, append-nil, arith}
 use Rattle.std.specs.Prelude.{slice_get}
-use Rattle.std.proofs.lemmas.Option.{same_Some, slice_get_read}
+use Rattle.std.proofs.lemmas.Option.{slice_get_read}
 use Rattle.std.proofs.lemmas.List.{map-append}
 use Rattle.std.proofs.lemmas.Grind.{flat_map-append}
 use Rattle.souper_graph.specs.declared.ast.operands.Operand.{Operand}
@@ -15,18 +15,9 @@ use Rattle.souper_graph.specs.Values.{PlainPhi, phi, instruction, condition, blo
 use Rattle.souper_graph.specs.Sameness.{carried, carried_operand, carried_rhs}
 use Rattle.souper_graph.proofs.Lists.{Has-left, Has-right}
 use Rattle.souper_graph.proofs.Sameness.InstructionMaps.{operands-map, word-map}
-use Rattle.souper_ir.specs.Words.{opcode_of, instruction_by}
-use Rattle.souper_ir.specs.Laws.Words.{opcode_is}
 use Rattle.souper_embedding.specs.Maps.{Binds, AreBelow}
 use Rattle.souper_embedding.proofs.KnownMaps.{binds-both}
-
--- an instruction is known by its word and its operands
-pub one-instruction : (i k : Instruction) → word_of i ≡ word_of k → operands_of i ≡ operands_of k → i ≡ k
-one-instruction i k w o =
-    let x = opcode_is i in
-    let y = opcode_is k in
-    let e : x.0 ≡ y.0 = same_Some x.0 y.0 (sym x.1.0 ∙ ap opcode_of w ∙ y.1.0) in
-    same_Some i k (sym x.1.2 ∙ (λ j. instruction_by (e j) (o j)) ∙ y.1.2)
+use Rattle.souper_embedding.proofs.Instructions.{one-instruction}
 
 pub carried-instruction : (f : ℕ → ℕ) (i k : Instruction) → word_of i ≡ word_of k → operands_of k ≡ map (carried_operand f) (operands_of i) → k ≡ instruction_map (carried_operand f) i
 carried-instruction f i k w o = one-instruction k (instruction_map (carried_operand f) i) (sym w ∙ sym (word-map (carried_operand f) i)) (o ∙ sym (operands-map (carried_operand f) i))
@@ -136,3 +127,6 @@ pub instruction-parts : (f : ℕ → ℕ) (a b : Instruction) → instruction b 
 instruction-parts f a b e =
     let z = instruction-part f a b e in
     (sym (word-map (carried_operand f) a) ∙ ap word_of (sym z), ap operands_of z ∙ operands-map (carried_operand f) a)
+
+pub block-pc-from : (f : ℕ → ℕ) (x y : BlockPc) → y.block ≡ f x.block → y.predecessor ≡ x.predecessor → y.x ≡ carried_operand f x.x → y.y ≡ carried_operand f x.y → block_condition y ≡ carried f (block_condition x)
+block-pc-from f x y b p ex ey = λ j. block_condition (record { block = b j; predecessor = p j; x = ex j; y = ey j })

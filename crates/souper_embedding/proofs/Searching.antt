@@ -1,9 +1,9 @@
 -- What a map that was reached says of the left-hand side, and which maps are reached.
-use Rattle.std.proofs.Common.{◌≡◌, ℕ, zero, suc, ◌+◌, ◌++◌, ◌⊎◌, inl, inr, length, map, take, List, [], ◌∷◌, Option, Some, None, true, false, refl, sym, ap, ◌∙◌, subst}
+use Rattle.std.proofs.Common.{◌≡◌, ℕ, zero, suc, ◌++◌, ◌⊎◌, inl, inr, length, map, take, List, [], ◌∷◌, Option, Some, None, true, false, refl, sym, ap, ◌∙◌, subst}
 use Rattle.std.specs.Prelude.{slice_get, IsTrue, flat_map}
 use Rattle.std.proofs.lemmas.Option.{same_Some}
 use Rattle.souper_graph.specs.Values.{PlainAssignment, PlainStatement, assigned, condition, block_condition, PlainInfer, inferred, Item}
-use Rattle.souper_graph.specs.Uses.{Has, Use, value_use, block_use, position_of, uses_of, uses_of_optional, used_at, is_condition, conditions, Needed, walked, used, NeededIn}
+use Rattle.souper_graph.specs.Uses.{Has, Use, value_use, block_use, position_of, uses_of, uses_of_optional, used_at, is_condition, Needed, walked, used, NeededIn}
 use Rattle.souper_graph.specs.WellFormed.{WellFormed, IsAssigned, IsBlock, IsMet, AreMet}
 use Rattle.souper_graph.specs.Sameness.{carried}
 use Rattle.souper_graph.specs.LeftSides.{with_infer}
@@ -32,7 +32,7 @@ flat-from g [] y h = absurd h
 flat-from g (z ∷ xs) y h = elim (Has-cases (g z) (flat_map g xs) y h) [ inl a ↦ (z, inl refl, a) | inr b ↦ (let r = flat-from g xs y b in (r.0, inr r.1, r.2)) ]
 
 -- it is a path condition, or needed from the root and from what the conditions use
-left-cases : (ss : List PlainStatement) (i : PlainInfer) (p : ℕ) → NeededIn (record { statements = ss; ending = inferred i }) p → Has (conditions_in ss) p ⊎ Needed ss (all_walks ss i) p
+pub left-cases : (ss : List PlainStatement) (i : PlainInfer) (p : ℕ) → NeededIn (record { statements = ss; ending = inferred i }) p → Has (conditions_in ss) p ⊎ Needed ss (all_walks ss i) p
 left-cases ss i p (walked h) = elim (Has-cases (i.value ∷ conditions_in ss) [] p h) [
   | inl a ↦ elim a [ inl e ↦ inr (walked (inl e)) | inr c ↦ inl c ]
   | inr b ↦ absurd b
@@ -43,7 +43,7 @@ left-cases ss i p (used {i = n} d h) = elim (left-cases ss i n d) [
 ]
 
 -- what these walks need, the left-hand side needs
-needed-left : (ss : List PlainStatement) (i : PlainInfer) (p : ℕ) → Needed ss (all_walks ss i) p → NeededIn (record { statements = ss; ending = inferred i }) p
+pub needed-left : (ss : List PlainStatement) (i : PlainInfer) (p : ℕ) → Needed ss (all_walks ss i) p → NeededIn (record { statements = ss; ending = inferred i }) p
 needed-left ss i p (walked (inl e)) = walked (inl e)
 needed-left ss i p (walked (inr h)) =
     let r = flat-from (used_at ss) (conditions_in ss) p h in
@@ -104,7 +104,7 @@ pub use-below : (ss : List PlainStatement) (i : PlainInfer) (k : ℕ) → WellFo
 use-below ss i k wl p u n h = well_formed_below (record { statements = ss; ending = inferred i }) wl p u (needed-left ss i p (needed_more (walks-in ss i k) n)) h
 
 -- what the walks need is known
-known-needed : (ss qs : List PlainStatement) (walks : List ℕ) (m : List (Option ℕ)) → ((p q : ℕ) → GoesTo m p q → IsClosedAt ss qs m p q) → ((p : ℕ) → Has walks p → (q : ℕ) × GoesTo m p q) → (p : ℕ) → Needed ss walks p → (q : ℕ) × GoesTo m p q
+pub known-needed : (ss qs : List PlainStatement) (walks : List ℕ) (m : List (Option ℕ)) → ((p q : ℕ) → GoesTo m p q → IsClosedAt ss qs m p q) → ((p : ℕ) → Has walks p → (q : ℕ) × GoesTo m p q) → (p : ℕ) → Needed ss walks p → (q : ℕ) × GoesTo m p q
 known-needed ss qs walks m closed known p (walked h) = known p h
 known-needed ss qs walks m closed known p (used {i = n} d h) = let x = known-needed ss qs walks m closed known n d in (closed n x.0 x.1).uses p h
 
@@ -119,7 +119,7 @@ each-stands s q i j f wl h p n =
 pub each-stands-for : (s q : Item) (i j : PlainInfer) (f : ℕ → ℕ) (k : ℕ) → WellFormed (with_infer s i) → EmbedsLeft s q i j f → EachStands s.statements q.statements (walks_with s.statements i (take k (conditions_in s.statements))) f
 each-stands-for s q i j f k wl h p n = each-stands s q i j f wl h p (needed_more (walks-in s.statements i k) n)
 
-all-taken : (xs : List ℕ) → take (length xs) xs ≡ xs
+pub all-taken : (xs : List ℕ) → take (length xs) xs ≡ xs
 all-taken [] = refl
 all-taken (x ∷ xs) = ap (λ z. x ∷ z) (all-taken xs)
 
@@ -157,7 +157,7 @@ reached-embeds s q i j m k wl e h wants f w = record {
 
 -- ---- the root
 
-none-taken : (xs : List ℕ) → take 0 xs ≡ []
+pub none-taken : (xs : List ℕ) → take 0 xs ≡ []
 none-taken [] = refl
 none-taken (x ∷ xs) = refl
 
@@ -263,7 +263,7 @@ reached-next ss qs i j m bound new k c d h t b sound w = record {
 
 -- ---- a function that embeds meets each condition
 
-at-has : {X : Type 0} (xs : List X) (x : X) → Has xs x → (n : ℕ) × (slice_get xs n ≡ Some x)
+pub at-has : {X : Type 0} (xs : List X) (x : X) → Has xs x → (n : ℕ) × (slice_get xs n ≡ Some x)
 at-has [] x h = absurd h
 at-has (y ∷ ys) x (inl e) = (0, ap (λ z. Some z) e)
 at-has (y ∷ ys) x (inr h) = let r = at-has ys x h in (suc r.0, r.1)

@@ -92,3 +92,39 @@ apart_answer x = record {
       ∷ input (codes "%a") [] ∷ less (codes "%b") (Value 5) 4 ∷ holds 6 ∷ defines (codes "%8") None (instruction (Shl (Value x) (number 1))) [] ∷ [];
   ending = infer_result 4 [] (Value 8);
 }
+
+-- the input of the condition is another one than the root's: `%0:i8 = var`, `%1 = ult %0, 4`, `pc %1 1`, `%3:i8 = var`, `%4 = sub %3, 3`, `infer %4`, `result 0`
+abbrev pub merged_stored : Item
+merged_stored = record {
+  statements = input (codes "%0") [] ∷ less (codes "%1") (Value 0) 4 ∷ holds 1 ∷ input (codes "%3") [] ∷ defines (codes "%4") None (instruction (Sub (Value 3) (number 3))) [] ∷ [];
+  ending = infer_result 4 [] (number 0);
+}
+
+-- it is the root's: `%0:i8 = var`, `%1 = ult %0, 4`, `pc %1 1`, `%3 = sub %0, 3`, `infer %3`
+abbrev pub merged_query : Item
+merged_query = record {
+  statements = input (codes "%0") [] ∷ less (codes "%1") (Value 0) 4 ∷ holds 1 ∷ defines (codes "%3") None (instruction (Sub (Value 0) (number 3))) [] ∷ [];
+  ending = infer 3 [];
+}
+
+-- both inputs go to the one
+abbrev pub merged_map : ℕ → ℕ
+merged_map p = get_or (0 ∷ 1 ∷ 2 ∷ 0 ∷ 3 ∷ []) p p
+
+-- the root needs two inputs: `%0:i8 = var`, `%1:i8 = var`, `%2 = sub %0, %1`, `infer %2`, `result 0`
+abbrev pub paired_stored : Item
+paired_stored = record {
+  statements = input (codes "%0") [] ∷ input (codes "%1") [] ∷ defines (codes "%2") None (instruction (Sub (Value 0) (Value 1))) [] ∷ [];
+  ending = infer_result 2 [] (number 0);
+}
+
+-- it needs one: `%0:i8 = var`, `%1 = sub %0, %0`, `infer %1`
+abbrev pub paired_query : Item
+paired_query = record { statements = input (codes "%0") [] ∷ defines (codes "%1") None (instruction (Sub (Value 0) (Value 0))) [] ∷ []; ending = infer 1 [] }
+
+-- an input of 16 bits: `%0:i16 = var`, `%1 = sub %0, 3`, `infer %1`
+abbrev pub wide_query : Item
+wide_query = record {
+  statements = defines (codes "%0") (Some (record { width = 16 })) var [] ∷ defines (codes "%1") None (instruction (Sub (Value 0) (number 3))) [] ∷ [];
+  ending = infer 1 [];
+}

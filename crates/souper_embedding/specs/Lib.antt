@@ -1,6 +1,10 @@
 pub mod Embedding
+pub mod Images
 pub mod Completion
 pub mod Examples
 pub mod Maps
 pub mod Search
+pub mod Given
+pub mod Listing
+pub mod States
 pub mod Key

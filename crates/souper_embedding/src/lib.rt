@@ -5,7 +5,11 @@
 //! completed query is correct.
 #![tactic(auto)]
 
+mod conditions;
+pub mod embed;
 mod facts;
 pub mod laws;
 mod maps;
+mod roots;
+mod search;
 mod walk;

@@ -1,12 +1,25 @@
 //! Maps from the positions of one item to those of another, which are known at some positions.
 
-ghost use Rattle.std.specs.Prelude.{◌≡◌, ◌<◌, ℕ, List, [], ◌∷◌, length, map, true};
+ghost use Rattle.std.specs.Prelude.{◌≡◌, ◌<◌, ℕ, List, [], ◌∷◌, length, map, true, IfOk};
 ghost use Rattle.souper_graph.specs.Uses.{position_of, uses_of_operand, uses_of_operands, uses_of_rhs};
 ghost use Rattle.souper_graph.specs.Sameness.{carried_operand, carried_rhs};
 ghost use Rattle.souper_graph.specs.View.{view_rhs};
-ghost use Rattle.souper_embedding.specs.Maps.{GoesTo, Follows, Binds, AreBelow};
+ghost use Rattle.souper_embedding.specs.Maps.{GoesTo, Follows, Binds, AreBelow, IsUnknown};
 
 use souper_graph::ast::{AssignmentRhs, BlockId, Id, Operand, Phi, Statement, ValueId};
+use std::alloc::{AllocError, Global};
+
+// A map of this many positions that is known nowhere.
+pub(crate) fn unknown_map(alloc: Global, count: usize) -> Result<Vec<Option<usize>>, AllocError>
+    ensures unknown { IfOk result (λ to. IsUnknown to.items) }
+    ensures long { IfOk result (λ to. length to.items ≡ count) }
+{
+    let mut to = Vec::with_capacity(alloc, count)?;
+    for index in 0..count {
+        to.push(None)?;
+    }
+    Ok(to)
+}
 
 // The map takes p to q, if it is not known there yet. Whether it takes p to q now.
 pub(crate) fn bind(to: &mut [Option<usize>], p: usize, q: usize) -> bool

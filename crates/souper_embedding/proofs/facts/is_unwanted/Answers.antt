@@ -1,4 +1,4 @@
-use Rattle.std.proofs.Common.{◌≡◌, ℕ, ◌+◌, ◌<◌, ◌≤◌, ◌++◌, ◌⊎◌, List, [], ◌∷◌, length, map, take, get_or, true, false, Option, Some, None, refl, sym, ap, ◌∙◌, subst, arith, inl, inr}
+use Rattle.std.proofs.Common.{◌≡◌, [], ◌∷◌, map, true, false, refl, sym, ◌∙◌, subst, arith, inl, inr}
 use Rattle.souper_graph.specs.Uses.{Has}
 use Rattle.souper_graph.specs.Values.{demanded_bits}
 use Rattle.souper_graph.specs.View.{view_root_attribute}

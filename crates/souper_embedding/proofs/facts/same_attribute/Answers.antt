@@ -1,4 +1,4 @@
-use Rattle.std.proofs.Common.{◌≡◌, ℕ, ◌+◌, ◌<◌, ◌≤◌, ◌++◌, ◌⊎◌, List, [], ◌∷◌, length, map, take, get_or, true, false, Bool, Option, Some, None, refl, sym, ap, ◌∙◌, subst, arith, inl, inr}
+use Rattle.std.proofs.Common.{◌≡◌, List, Bool, Option, sym, ap, ◌∙◌}
 use Rattle.souper_graph.specs.View.{view_attribute}
 use Rattle.souper_graph.specs.Values.{known_bits}
 use Rattle.souper_embedding.proofs.Wanting.{same-bits}

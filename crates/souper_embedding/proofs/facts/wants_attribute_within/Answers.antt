@@ -1,9 +1,7 @@
-use Rattle.std.proofs.Common.{◌≡◌, ℕ, ◌+◌, ◌<◌, ◌≤◌, ◌++◌, ◌⊎◌, List, [], ◌∷◌, length, map, take, get_or, true, false, Bool, Option, Some, None, refl, sym, ap, ◌∙◌, subst, arith, inl, inr}
+use Rattle.std.proofs.Common.{◌≡◌, [], ◌∷◌, map, false, Some, refl, sym, ap, subst}
 use Rattle.std.specs.Prelude.{slice_get}
-use Rattle.souper_graph.specs.Uses.{Has}
-use Rattle.souper_graph.specs.Values.{demanded_bits, harvested_from_use}
 use Rattle.souper_graph.specs.View.{view_root_attribute}
-use Rattle.souper_embedding.specs.Embedding.{IsUnwanted, WantsWithin}
+use Rattle.souper_embedding.specs.Embedding.{WantsWithin}
 use Rattle.souper_embedding.proofs.Wanting.{wants-bits, wants-none}
 use Rattle.souper_embedding.proofs.facts.wants_attribute_within.Goals as goal
 

@@ -1,4 +1,4 @@
-use Rattle.souper_embedding.proofs.Examples.{exact, fewer, ordered, repeated, facts, demanded, demanded_any}
+use Rattle.souper_embedding.proofs.Examples.{exact, fewer, ordered, repeated, facts, demanded, demanded_any, merged}
 use Rattle.souper_embedding.proofs.laws.law_of_embedded_examples.Goals as goal
 
 pub returns-clause-exact : goal.returns-clause-exact
@@ -21,3 +21,6 @@ returns-clause-demanded c = demanded
 
 pub returns-clause-demanded_any : goal.returns-clause-demanded_any
 returns-clause-demanded_any c = demanded_any
+
+pub returns-clause-merged : goal.returns-clause-merged
+returns-clause-merged c = merged

@@ -1,4 +1,4 @@
-use Rattle.souper_embedding.proofs.Examples.{unmet, predecessor, fact, demanded-more, demanded-all, operands}
+use Rattle.souper_embedding.proofs.Examples.{unmet, predecessor, fact, demanded-more, demanded-all, operands, inputs, width}
 use Rattle.souper_embedding.proofs.laws.law_of_other_examples.Goals as goal
 
 pub returns-clause-unmet : goal.returns-clause-unmet
@@ -18,3 +18,9 @@ returns-clause-demanded_all c = demanded-all
 
 pub returns-clause-operands : goal.returns-clause-operands
 returns-clause-operands c = operands
+
+pub returns-clause-inputs : goal.returns-clause-inputs
+returns-clause-inputs c = inputs
+
+pub returns-clause-width : goal.returns-clause-width
+returns-clause-width c = width

@@ -1,4 +1,4 @@
-use Rattle.std.proofs.Common.{◌≡◌, ℕ, ◌+◌, ◌<◌, ◌≤◌, ◌++◌, ◌⊎◌, List, [], ◌∷◌, length, map, take, get_or, true, false, Option, Some, None, refl, sym, ap, ◌∙◌, subst, arith, inl, inr}
+use Rattle.std.proofs.Common.{◌≡◌, true, false, refl, sym, ◌∙◌}
 use Rattle.souper_embedding.proofs.KnownMaps.{follows-old}
 use Rattle.souper_embedding.proofs.Operands.{operands-bound, operands-sound, operand-step}
 use Rattle.souper_embedding.proofs.maps.bind_operands.Goals as goal

@@ -1,4 +1,4 @@
-use Rattle.std.proofs.Common.{◌≡◌, ℕ, ◌≤◌, List, length, map, take}
+use Rattle.std.proofs.Common.{◌≡◌, ℕ, length, map, take}
 use Rattle.souper_graph.specs.Uses.{position_of, uses_of_operands}
 use Rattle.souper_graph.specs.Sameness.{carried_operand}
 use Rattle.souper_embedding.specs.Maps.{Follows, Binds, AreBelow}

@@ -1,4 +1,4 @@
-use Rattle.std.proofs.Common.{◌≡◌, ℕ, ◌+◌, ◌<◌, ◌≤◌, ◌++◌, ◌⊎◌, List, [], ◌∷◌, length, map, take, get_or, true, false, Option, Some, None, refl, sym, ap, ◌∙◌, subst, arith, inl, inr}
+use Rattle.std.proofs.Common.{◌≡◌, [], ◌∷◌, length, map, true, false, refl, sym, ap, ◌∙◌, subst, inl, inr}
 use Rattle.souper_graph.specs.Uses.{Has, position_of, uses_of_operands}
 use Rattle.souper_graph.specs.Sameness.{carried_operand}
 use Rattle.souper_embedding.specs.Maps.{Binds, AreBelow}

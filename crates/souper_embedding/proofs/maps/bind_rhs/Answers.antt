@@ -1,4 +1,4 @@
-use Rattle.std.proofs.Common.{◌≡◌, ℕ, ◌+◌, ◌<◌, ◌≤◌, ◌++◌, ◌⊎◌, List, [], ◌∷◌, length, map, take, get_or, true, false, Option, Some, None, refl, sym, ap, ◌∙◌, subst, arith, inl, inr}
+use Rattle.std.proofs.Common.{◌≡◌, length, map, sym, ap, ◌∙◌, subst}
 use Rattle.std.specs.Cmp.Lexicographic.{same_text, other_text}
 use Rattle.souper_graph.specs.Instructions.{word_of, operands_of}
 use Rattle.souper_graph.specs.View.{view_phi, view_rhs}

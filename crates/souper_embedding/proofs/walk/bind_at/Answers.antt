@@ -1,8 +1,6 @@
-use Rattle.std.proofs.Common.{◌≡◌, ℕ, length, map, true, false, Some, None, refl, sym, ap, ◌∙◌, subst}
-use Rattle.std.specs.Prelude.{slice_get}
+use Rattle.std.proofs.Common.{◌≡◌, length, map, Some, None, sym, subst}
 use Rattle.souper_graph.specs.Lookup.{assignment_at}
-use Rattle.souper_graph.specs.Uses.{position_of, uses_of_optional, used_at}
-use Rattle.souper_graph.specs.Values.{assigned}
+use Rattle.souper_graph.specs.Uses.{position_of, uses_of_optional}
 use Rattle.souper_graph.specs.View.{view_assignment, view_statement}
 use Rattle.souper_embedding.specs.Embedding.{StandsFor}
 use Rattle.souper_embedding.specs.Maps.{Binds, AreBelow}

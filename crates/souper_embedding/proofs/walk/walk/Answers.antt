@@ -1,8 +1,7 @@
-use Rattle.std.proofs.Common.{◌≡◌, ℕ, suc, ◌+◌, ◌-◌, ◌<◌, ◌≤◌, List, length, map, get_or, true, false, Option, Some, None, refl, sym, ap, ◌∙◌, subst, arith}
+use Rattle.std.proofs.Common.{◌≡◌, ℕ, suc, ◌-◌, ◌<◌, List, length, map, get_or, true, false, Option, Some, None, refl, sym, ap, ◌∙◌, subst, arith}
 use Rattle.std.specs.Prelude.{slice_get}
 use Rattle.std.proofs.lemmas.Option.{slice_get-get_or}
 use Rattle.souper_graph.specs.View.{view_statement}
-use Rattle.souper_embedding.specs.Maps.{GoesTo}
 use Rattle.souper_embedding.proofs.Walking.{WalkedAbove, walked-past, walked-next, walked-all, forced-next}
 use Rattle.souper_embedding.proofs.walk.walk.Goals as goal
 
