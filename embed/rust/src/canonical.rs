@@ -55,6 +55,11 @@ pub struct Location {
 /// Why and where a text was refused.
 #[derive(Clone, Debug, PartialEq, Eq)]
 pub struct Refusal {
+    details: Box<Details>,
+}
+
+#[derive(Clone, Debug, PartialEq, Eq)]
+struct Details {
     shown: String,
     // What the original crate shows: the line and the column of the byte before.
     original: String,
@@ -71,11 +76,11 @@ impl Refusal {
     /// Why and where, in four lines without a newline at the end: at [`Refusal::location`] or, without one, at [`Refusal::line`] and
     /// [`Refusal::column`]. `Display` writes it as well.
     pub fn shown(&self) -> &str {
-        &self.shown
+        &self.details.shown
     }
 
     pub(crate) fn original(&self) -> &str {
-        &self.original
+        &self.details.original
     }
 
     /// The message alone: the first line of [`Refusal::shown`] without the place.
@@ -87,22 +92,22 @@ impl Refusal {
     /// assert_eq!(refusal.message(), "no value named '%y' in scope");
     /// ```
     pub fn message(&self) -> &str {
-        parts(&self.shown).map_or(&self.shown, |(message, _)| message)
+        parts(&self.details.shown).map_or(&self.details.shown, |(message, _)| message)
     }
 
     /// How many bytes were read.
     pub fn offset(&self) -> usize {
-        self.offset
+        self.details.offset
     }
 
     /// The line of the last byte that was read, or of the first of the text if there is none; from 1.
     pub fn line(&self) -> usize {
-        self.line
+        self.details.line
     }
 
     /// The column of that byte, in bytes and from 1.
     pub fn column(&self) -> usize {
-        self.column
+        self.details.column
     }
 
     /// Where the text is at fault. The line and the column of [`Refusal::line`] and [`Refusal::column`] are of the byte before.
@@ -116,12 +121,12 @@ impl Refusal {
     /// assert!(!refusal.is_at_end());
     /// ```
     pub fn location(&self) -> Option<Location> {
-        self.location
+        self.details.location
     }
 
     /// Whether the text ended where more is wanted, so that a longer text might not be refused. False without a location.
     pub fn is_at_end(&self) -> bool {
-        self.at_end
+        self.details.at_end
     }
 
     /// What the writer may have meant, for a person, in one line. `None` if there is no hint.
@@ -133,34 +138,35 @@ impl Refusal {
     /// assert_eq!(refusal.hint(), Some("did you mean '%sum'?"));
     /// ```
     pub fn hint(&self) -> Option<&str> {
-        self.hint.as_deref()
+        self.details.hint.as_deref()
     }
 
     /// Which text of the call was refused: 0 for the first, 1 for the second.
     pub fn input(&self) -> usize {
-        self.input
+        self.details.input
     }
 
     // Gives the refusal of a segment its place, its location and its hint in the stream.
     pub(crate) fn place(&mut self, before: &Before, kind: Kind, segment: &[u8]) {
-        if before.lines > 0 && self.hint.is_some() {
-            self.hint = hint(kind, before.lines, segment);
+        let own = &mut *self.details;
+        if before.lines > 0 && own.hint.is_some() {
+            own.hint = hint(kind, before.lines, segment);
         }
         let last_line = String::from_utf8_lossy(&before.last_line);
         let (Some((message, text)), Some((_, mut text_before))) =
-            (parts(&self.shown), parts(&self.original))
+            (parts(&own.shown), parts(&own.original))
         else {
             unreachable!("a refusal has four lines")
         };
-        if self.offset == 0 && before.bytes > 0 {
+        if own.offset == 0 && before.bytes > 0 {
             // The byte before is the newline of the line before.
-            (self.line, self.column) = (before.lines, before.last_line.len());
-            text_before = line_at(&last_line, self.column - 1);
+            (own.line, own.column) = (before.lines, before.last_line.len());
+            text_before = line_at(&last_line, own.column - 1);
         } else {
-            self.line += before.lines;
+            own.line += before.lines;
         }
-        let original = four_lines(message, self.line, self.column, text_before);
-        self.shown = match &mut self.location {
+        let original = four_lines(message, own.line, own.column, text_before);
+        own.shown = match &mut own.location {
             Some(at) => {
                 at.offset += before.bytes;
                 at.line += before.lines;
@@ -168,8 +174,8 @@ impl Refusal {
             }
             None => original.clone(),
         };
-        self.original = original;
-        self.offset += before.bytes;
+        own.original = original;
+        own.offset += before.bytes;
     }
 }
 
@@ -213,7 +219,7 @@ pub(crate) struct Before {
 
 impl fmt::Display for Refusal {
     fn fmt(&self, f: &mut fmt::Formatter<'_>) -> fmt::Result {
-        f.write_str(&self.shown)
+        f.write_str(&self.details.shown)
     }
 }
 
@@ -489,7 +495,7 @@ fn refused(kind: Kind, text: &str, outcome: &Outcome, original: String) -> Error
         }
         _ => original.clone(),
     };
-    Error::Refused(Refusal {
+    let details = Box::new(Details {
         shown,
         original,
         offset: outcome.offset,
@@ -499,5 +505,6 @@ fn refused(kind: Kind, text: &str, outcome: &Outcome, original: String) -> Error
         location,
         at_end: found.at_end != 0,
         hint: hint(kind, 0, text.as_bytes()),
-    })
+    });
+    Error::Refused(Refusal { details })
 }
