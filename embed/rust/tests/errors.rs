@@ -3,7 +3,9 @@ mod common;
 
 use common::records;
 use souper_ir::ast::LeftHandSide;
-use souper_ir::canonical::{check, format, key, library_version, same, Error, Kind, Location, Record, Refusal};
+use souper_ir::canonical::{
+    check, format, key, library_version, same, Error, Kind, Location, Record, Refusal,
+};
 use souper_ir::parse::{
     parse_left_hand_sides_file, parse_left_hand_sides_str, parse_replacements_file,
     parse_replacements_str, parse_right_hand_sides_file, parse_right_hand_sides_str, ParseError,
