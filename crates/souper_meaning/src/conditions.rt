@@ -114,7 +114,7 @@ fn statement_is_met(
     }
 }
 
-/// Whether those of the statement at a position are met, if the item needs it.
+/// Whether the facts and the condition of the statement at a position are met, if the item needs it.
 fn is_met_at(
     parts: &Parts<'_>,
     plan: &Plan,

@@ -49,7 +49,7 @@ pub(crate) fn widths_at(plan: &Plan, position: usize) -> Widths
     }
 }
 
-/// The outcome of a needed statement, by those of the statements below it. Any other statement has no meaning.
+/// The outcome of a needed statement, by the outcomes of the statements before it. Any other statement has no meaning.
 fn needed_outcome(
     parts: &Parts<'_>,
     plan: &Plan,

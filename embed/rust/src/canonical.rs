@@ -474,7 +474,7 @@ fn string(bytes: Vec<u8>) -> String {
     String::from_utf8(bytes).expect("the library writes UTF-8")
 }
 
-// The hint for a refused text after so many lines. `None` also if memory ran out for it.
+// The hint for a refused text that this number of lines precedes. `None` also if memory ran out for it.
 fn hint(kind: Kind, lines: usize, text: &[u8]) -> Option<String> {
     let mut out = Vec::new();
     let outcome = raw::call(Call::Hint(lines), kind, text, 256, &mut out);
