@@ -2098,7 +2098,7 @@ inline std::string_view line_at(std::string_view text, std::size_t offset) noexc
     return line;
 }
 
-// The hint for a refused text after so many lines; empty if there is none, or if memory ran out for it.
+// The hint for a refused text that this number of lines precedes; empty if there is none, or if memory ran out for it.
 inline std::string hint(kind k, std::size_t lines, std::string_view text) {
     buffer out;
     error found;

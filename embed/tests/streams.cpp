@@ -323,7 +323,7 @@ void next() {
     expect(!none.try_next(one, e) && e.what == status::no_kind, "no kind at the end", nullptr);
 }
 
-// The lines of a hint are those of the stream.
+// A hint names lines of the stream.
 void hints() {
     for (const bool by_segments : {false, true}) {
         reader from(kind::lhs, by_segments);

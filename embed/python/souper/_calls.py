@@ -48,7 +48,7 @@ def _line_at(data: bytes, offset: int) -> str:
 
 
 def hint(kind: Kind, lines: int, data: bytes) -> str | None:
-    """The hint for a refused text after so many lines. `None` also if memory ran out for it."""
+    """The hint for a refused text that this number of lines precedes. `None` also if memory ran out for it."""
     outcome, out = _written(_library.LIBRARY.souper_hint, (NUMBERS[kind], lines), data, 256)
     return out.decode() or None if outcome.status == REFUSED else None
 

@@ -92,7 +92,7 @@ pub(crate) enum Call<'a> {
     Key(u32),
     /// In this store; the kind is that of the queries.
     Find(&'a str),
-    /// After so many lines.
+    /// With the number of lines that precede the text.
     Hint(usize),
 }
 

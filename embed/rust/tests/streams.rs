@@ -233,7 +233,7 @@ fn refusals_are_those_of_the_whole_text() {
     assert!(same > texts.len() / 2);
 }
 
-// The lines of a hint are those of the stream.
+// A hint names lines of the stream.
 #[test]
 fn hints() {
     let text = "%x = var\ninfer %x\n\n%left = var\n%left = var\ninfer %left\n%y = ad 1, 2\ninfer %y\n%x = var\ninfer %y\n";
