@@ -1,8 +1,10 @@
 //! The command line.
 
+use crate::folders::kind_of_word;
+use crate::rewrite::Rewriting;
 use clap::ArgMatches;
 use souper_find::search::Choice;
-use souper_format::command::Kind;
+use souper_hint::Kind;
 use souper_records::layout::{Delimiter, Layout, Summary};
 use souper_records::output::Output;
 
@@ -30,8 +32,8 @@ pub(crate) enum Action {
     /// The same after all streams, of the graphs and with the counts that are asked for.
     Count(Layout, Summary),
 
-    /// Each file is rewritten by its canonical text, or by that with names by the printed order; with `force` a write-protected one too.
-    Write { rename: bool, force: bool },
+    /// Each file is rewritten by its canonical text.
+    Write(Rewriting),
 
     /// What a store answers for each left-hand side is written.
     Find { choice: Choice, output: Output },
@@ -62,16 +64,11 @@ impl Action {
         )
     }
 
-    /// Whether the names of the items that are written are by the printed order.
-    pub(crate) fn renames(self) -> bool {
-        matches!(self, Action::Format(output) if output.renames())
-    }
-
     /// Whether nothing is written to standard output while a file is read.
     pub(crate) fn is_silent(self) -> bool {
         matches!(
             self,
-            Action::Count(..) | Action::Write { .. } | Action::Check { diff: false }
+            Action::Count(..) | Action::Write(_) | Action::Check { diff: false }
         )
     }
 }
@@ -109,7 +106,7 @@ impl Task<'_, '_> {
     /// What is wrong with the arguments together, if something is.
     pub(crate) fn fault(&self) -> Option<&'static str> {
         match self.action {
-            Action::Write { .. } if self.files.is_empty() || has_input(self.files) => {
+            Action::Write(_) if self.files.is_empty() || has_input(self.files) => {
                 Some("the argument '--write' needs files, and standard input is none")
             }
             Action::Find { .. } if has_input(self.stores) => {
@@ -179,10 +176,11 @@ fn read_action(name: &str, options: &ArgMatches<'_>) -> Option<Action> {
         repeated: options.get_flag("repeated"),
     };
     match name {
-        "format" if options.get_flag("write") => Some(Action::Write {
+        "format" if options.get_flag("write") => Some(Action::Write(Rewriting {
             rename: layout.rename,
             force: options.get_flag("force"),
-        }),
+            quiet: options.get_flag("quiet"),
+        })),
         "format" if options.get_flag("lhs-key") => Some(Action::Keyed(output)),
         "format" => Some(Action::Format(output)),
         "uniq" if summary.counts || summary.repeated => Some(Action::Count(layout, summary)),
@@ -199,16 +197,12 @@ fn read_action(name: &str, options: &ArgMatches<'_>) -> Option<Action> {
     }
 }
 
-// The word of a kind, or `auto`. `find` has no such argument.
-fn read_kind(options: &ArgMatches<'_>) -> Option<Kind> {
-    Kind::from_word(options.get_str("KIND").unwrap_or("lhs"))
-}
-
 /// What the matches ask for.
 pub(crate) fn read_task<'m, 'a>(matches: &'m ArgMatches<'a>) -> Option<Task<'m, 'a>> {
     let (name, options) = matches.subcommand()?;
     Some(Task {
-        kind: read_kind(options),
+        // The word of a kind, or `auto`. `find` has no such argument.
+        kind: kind_of_word(options.get_str("KIND").unwrap_or("lhs")),
         action: read_action(name, options)?,
         recovers: options.get_flag("keep-going") || options.get_flag("json"),
         line_buffered: options.get_flag("line-buffered"),

@@ -3,5 +3,4 @@ mod Checking
 mod Distinct
 mod Seeing
 pub mod Outcomes
-pub mod Outputs
 mod ObjectLines

@@ -5,7 +5,7 @@
 
 pub mod check;
 pub mod counts;
-pub mod each;
+mod each;
 pub mod laws;
 pub mod layout;
 pub mod objects;
@@ -15,7 +15,8 @@ pub mod parts;
 pub mod records;
 pub mod rejected;
 pub mod report;
+pub mod rows;
 pub mod run;
 pub mod seen;
 pub mod stop;
-pub mod uniq;
+mod uniq;
