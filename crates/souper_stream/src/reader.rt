@@ -342,11 +342,7 @@ impl ItemReader {
     }
 
     // Drops what is not needed any more, and reads up to the end of the next chunk. Its length is pending then: 0 if the stream has ended.
-    fn next_chunk<T: StreamItem, R: BufRead>(
-        &mut self,
-        alloc: Global,
-        reader: &mut R,
-    ) -> io::Result<()>
+    fn next_chunk<T: StreamItem, R: BufRead>(&mut self, reader: &mut R) -> io::Result<()>
         requires parsed { self.old.buffer.start + self.old.buffer.parsed ≤ vec_len self.old.buffer.bytes }
         requires none { self.old.pending ≡ 0 }
         requires had { (start : Option (List ℕ)) × (ps : List (List Line)) × HasParts T.item_type start (R.remaining reader.old) ps self.old }
@@ -359,7 +355,7 @@ impl ItemReader {
         ensures last { OnOk result (self.new.buffer.last ≡ 0) }
         ensures due { self.old.is_eager ≡ true → OnOk result ((R.remaining reader.new ≡ R.remaining reader.old) ⊎ ReadsLast T.item_type (buffered self.new)) }
     {
-        self.buffer.drain(alloc)?;
+        self.buffer.drain();
         if self.is_eager {
             return self.next_shown::<T, R>(reader);
         }
@@ -518,7 +514,7 @@ impl ItemReader {
             self.read_segment::<T, S>(alloc, filename, sink)?;
             return Ok(true);
         }
-        match self.next_chunk::<T, R>(alloc, reader) {
+        match self.next_chunk::<T, R>(reader) {
             Ok(()) => {}
             Err(fault) if fault.kind() == ErrorKind::OutOfMemory => return Err(ParseError::from(
                 AllocError,

@@ -9,7 +9,7 @@ use Rattle.souper_stream.proofs.reader.ItemReader.next_chunk.Goals as goal
 
 pub loop-turn-init : goal.loop-turn-init
 loop-turn-init g c =
-    let d = c.in_ok-drain.ensures in
+    let d = c.drain.ensures in
     record {
       same = refl;
       eager = refl;
@@ -45,11 +45,11 @@ loop-turn-preserved g c = record {
 pub next_shown-requires-clause-had : goal.next_shown-requires-clause-had
 next_shown-requires-clause-had g c =
     let (start, ps, (ls, h)) = c.requires.had in
-    (start, ps, (ls, same_read _ _ _ _ _ _ _ _ _ _ _ _ _ _ c.in_ok-drain.ensures.buffers h h.chunk h.scanned))
+    (start, ps, (ls, same_read _ _ _ _ _ _ _ _ _ _ _ _ _ _ c.drain.ensures.buffers h h.chunk h.scanned))
 
 pub returns-then-self-clause-next : goal.returns-then-self-clause-next
 returns-then-self-clause-next g c =
-    on_ok_weaker c.next_shown.result (λ next start ps (ls, h). next start ps (ls, same_read _ _ _ _ _ _ _ _ _ _ _ _ _ _ c.in_ok-drain.ensures.buffers h h.chunk h.scanned)) c.next_shown.ensures.next
+    on_ok_weaker c.next_shown.result (λ next start ps (ls, h). next start ps (ls, same_read _ _ _ _ _ _ _ _ _ _ _ _ _ _ c.drain.ensures.buffers h h.chunk h.scanned)) c.next_shown.ensures.next
 
 pub returns-then-self-clause-kept : goal.returns-then-self-clause-kept
-returns-then-self-clause-kept g c = on_ok_weaker c.next_shown.result (λ h. record { more = h.0; bytes_are = h.1 ∙ ap (λ (x : List ℕ). x ++ h.0) c.in_ok-drain.ensures.bytes }) c.next_shown.ensures.kept
+returns-then-self-clause-kept g c = on_ok_weaker c.next_shown.result (λ h. record { more = h.0; bytes_are = h.1 ∙ ap (λ (x : List ℕ). x ++ h.0) c.drain.ensures.bytes }) c.next_shown.ensures.kept
