@@ -76,7 +76,7 @@ impl<'a> Source<'a> {
     /// A stream that is to be read with these options.
     ///
     /// For lines the reader is asked for no more while a part is there whole. Else a cut point is looked for after 64 KiB, or with recovery
-    /// in what the reader shows, and on to the end of a line; then whenever the buffer has doubled.
+    /// in what the reader shows; then whenever the buffer has doubled.
     pub fn new(alloc: Global, options: ReadOptions<'a>) -> Source<'a>
         ensures options { result.options ≡ options.entry }
         ensures eager { reads_eagerly result.parts ≡ options.entry.line_buffered }
