@@ -65,12 +65,7 @@ impl Groups<'_> {
 impl Sink<LeftHandSide> for Groups<'_> {
     ghost holds = { λ first groups items. (groups.store ≡ first.store) × ((entries : List Entry) → Stores entries first.store.now → AreGroups entries items (string_bytes groups.out)) };
 
-    fn take(&mut self, item: LeftHandSide) -> Result<(), AllocError> {
-        self.take_over(item)?;
-        Ok(())
-    }
-
-    fn take_over(
+    fn take(
         &mut self,
         mut item: LeftHandSide,
     ) -> Result<Option<Arena<Statement>>, AllocError> {

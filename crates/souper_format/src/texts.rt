@@ -52,12 +52,7 @@ struct Texts {
 impl<T: WholeItem + Drop> Sink<T> for Texts {
     ghost holds = { λ first texts items. string_bytes texts.text ≡ texts_of items };
 
-    fn take(&mut self, item: T) -> Result<(), AllocError> {
-        Sink::<T>::take_over(self, item)?;
-        Ok(())
-    }
-
-    fn take_over(&mut self, mut item: T) -> Result<Option<Arena<Statement>>, AllocError> {
+    fn take(&mut self, mut item: T) -> Result<Option<Arena<Statement>>, AllocError> {
         // An empty buffer takes the text of an item at once.
         self.item.clear();
         append_item(&item, &mut self.item)?;

@@ -1,7 +1,7 @@
 //! Hints: what the writer of an invalid text may have meant, and for who gave another kind than a file has.
 
 use souper_hint::{Kind, hint_of};
-use souper_ir::ast::{LeftHandSide, Replacement, RightHandSide};
+use souper_ir::ast::{Arena, LeftHandSide, Replacement, RightHandSide, Statement};
 use souper_ir::parse::{ParseError, Sink, WholeItem};
 use souper_stream::{ChunkSink, ItemReader, StreamItem};
 use souper_watched::Watched;
@@ -34,9 +34,9 @@ struct Taken {
 impl<T: WholeItem + Drop> Sink<T> for Taken {
     ghost holds = { λ first taken items. Unit {0} };
 
-    fn take(&mut self, _item: T) -> Result<(), AllocError> {
+    fn take(&mut self, _item: T) -> Result<Option<Arena<Statement>>, AllocError> {
         self.some = true;
-        Ok(())
+        Ok(None)
     }
 }
 

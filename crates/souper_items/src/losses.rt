@@ -1,7 +1,7 @@
 //! What a canonical text leaves out of the text that it is made from: comments, and definitions that nothing uses.
 
 use souper_hint::Kind;
-use souper_ir::ast::{Item, LeftHandSide, Replacement, RightHandSide};
+use souper_ir::ast::{Arena, Item, LeftHandSide, Replacement, RightHandSide, Statement};
 use souper_ir::parse::{Sink, WholeItem};
 use souper_records::options::ReadOptions;
 use souper_records::parts::{Part, PartSink, Source, write_parts};
@@ -49,9 +49,9 @@ fn comments_in(text: &[u8]) -> usize {
 impl<T: WholeItem + Drop> Sink<T> for Losses {
     ghost holds = { λ first losses items. Unit {0} };
 
-    fn take(&mut self, item: T) -> Result<(), AllocError> {
+    fn take(&mut self, item: T) -> Result<Option<Arena<Statement>>, AllocError> {
         self.taken = self.taken.saturating_add(unneeded(&item)?);
-        Ok(())
+        Ok(None)
     }
 }
 

@@ -45,12 +45,8 @@ struct Checked {
 impl<T: WholeItem + Drop> Sink<T> for Checked {
     ghost holds = { λ first checked items. (checked.comparison ≡ first.comparison) × (checked.records.layout ≡ first.records.layout) × (string_bytes checked.records.out ≡ records_of first.records.layout items) };
 
-    fn take(&mut self, item: T) -> Result<(), AllocError> {
+    fn take(&mut self, item: T) -> Result<Option<Arena<Statement>>, AllocError> {
         Sink::<T>::take(&mut self.records, item)
-    }
-
-    fn take_over(&mut self, item: T) -> Result<Option<Arena<Statement>>, AllocError> {
-        Sink::<T>::take_over(&mut self.records, item)
     }
 }
 

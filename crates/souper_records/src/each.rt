@@ -46,12 +46,7 @@ impl Records {
 impl<T: WholeItem + Drop> Sink<T> for Records {
     ghost holds = { λ first records items. (records.layout ≡ first.layout) × (string_bytes records.out ≡ records_of first.layout items) };
 
-    fn take(&mut self, item: T) -> Result<(), AllocError> {
-        Sink::<T>::take_over(self, item)?;
-        Ok(())
-    }
-
-    fn take_over(&mut self, mut item: T) -> Result<Option<Arena<Statement>>, AllocError> {
+    fn take(&mut self, mut item: T) -> Result<Option<Arena<Statement>>, AllocError> {
         self.text.clear();
         append_last_text(self.layout.rename, &mut item, &mut self.text)?;
         append_record_of_text(self.alloc, self.layout, self.text.as_str(), &mut self.out)?;

@@ -72,12 +72,7 @@ struct RowSink<M, V: Drop> {
 impl<T: WholeItem + Drop, V: Drop, M: Rows<T, V>> Sink<T> for RowSink<M, V> {
     ghost holds = { λ first sink items. (sink.maker ≡ first.maker) × AllZip (M.makes first.maker) items sink.rows.items };
 
-    fn take(&mut self, item: T) -> Result<(), AllocError> {
-        Sink::<T>::take_over(self, item)?;
-        Ok(())
-    }
-
-    fn take_over(&mut self, mut item: T) -> Result<Option<Arena<Statement>>, AllocError> {
+    fn take(&mut self, mut item: T) -> Result<Option<Arena<Statement>>, AllocError> {
         let made = self.maker.make(self.alloc, &mut item, &mut self.text)?;
         self.rows.push(made)?;
         Ok(item.take_statements())

@@ -33,12 +33,7 @@ pub(crate) struct Distinct {
 impl<T: WholeItem + Drop> Sink<T> for Distinct {
     ghost holds = { λ first distinct items. (distinct.layout ≡ first.layout) × (distinct.seen ≡ first.seen) × (map string_bytes distinct.texts.items ≡ map (text_by first.layout.rename) items) × AllByRecursion (HasText T.item_type first.layout.rename) items };
 
-    fn take(&mut self, item: T) -> Result<(), AllocError> {
-        Sink::<T>::take_over(self, item)?;
-        Ok(())
-    }
-
-    fn take_over(&mut self, mut item: T) -> Result<Option<Arena<Statement>>, AllocError> {
+    fn take(&mut self, mut item: T) -> Result<Option<Arena<Statement>>, AllocError> {
         push_last_text(
             self.seen.alloc,
             self.layout.rename,

@@ -1,5 +1,5 @@
 use Rattle.std.proofs.lemmas.Slice.Zip.{all_zipped_more}
-use Rattle.souper_records.proofs.rows.RowSinkSink.take_over.Goals as goal
+use Rattle.souper_records.proofs.rows.RowSinkSink.take.Goals as goal
 
 pub returns : goal.returns
 returns g c = λ first items held.

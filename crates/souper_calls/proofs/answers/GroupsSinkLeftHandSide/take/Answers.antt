@@ -3,7 +3,7 @@ use Rattle.std.specs.String.{string_bytes}
 use Rattle.souper_graph.specs.View.{view_left_hand_side}
 use Rattle.souper_calls.specs.Answers.{AreGroups}
 use Rattle.souper_calls.proofs.Groups.{groups-more}
-use Rattle.souper_calls.proofs.answers.GroupsSinkLeftHandSide.take_over.Goals as goal
+use Rattle.souper_calls.proofs.answers.GroupsSinkLeftHandSide.take.Goals as goal
 
 pub returns-in-Ok : goal.returns-in-Ok
 returns-in-Ok c = λ first items held. (
