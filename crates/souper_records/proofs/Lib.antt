@@ -1,6 +1,6 @@
 pub mod Prelude
 mod Checking
 mod Distinct
-mod Seeing
+pub mod Seeing
 pub mod Outcomes
 mod ObjectLines

@@ -16,9 +16,9 @@ use souper_watched::Watched;
 use std::alloc::{AllocError, Global};
 use std::io::Write;
 
-/// The records of the items that were taken.
+/// The records of the items that were taken, which a part's output is.
 #[derive(Drop)]
-pub(crate) struct Records {
+pub struct Records {
     alloc: Global,
     layout: Layout,
 
@@ -30,7 +30,8 @@ pub(crate) struct Records {
 }
 
 impl Records {
-    pub(crate) fn new(alloc: Global, layout: Layout) -> Self
+    /// No item was taken.
+    pub fn new(alloc: Global, layout: Layout) -> Self
         ensures layout { result.layout ≡ layout }
         ensures out { string_bytes result.out ≡ [] }
     {

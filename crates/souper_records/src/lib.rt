@@ -5,7 +5,7 @@
 
 pub mod check;
 pub mod counts;
-mod each;
+pub mod each;
 pub mod laws;
 pub mod layout;
 pub mod objects;
@@ -19,4 +19,4 @@ pub mod rows;
 pub mod run;
 pub mod seen;
 pub mod stop;
-mod uniq;
+pub mod uniq;

@@ -104,9 +104,9 @@ impl<'a> Source<'a> {
     }
 }
 
-// Writes the output of the next part, and reports its refusal, if it is refused. Returns whether it is refused, or none at the end of the
-// stream.
-fn write_next<T: StreamItem + Drop, S: PartSink<T>, R: BufRead, W: Write, E: Write>(
+/// Writes the output of the next part, and reports its refusal, if it is refused. Returns whether it is refused, or none at the end of the
+/// stream. It stops as [`write_parts`] does.
+pub fn write_next<T: StreamItem + Drop, S: PartSink<T>, R: BufRead, W: Write, E: Write>(
     alloc: Global,
     source: &mut Source<'_>,
     sink: &mut S,

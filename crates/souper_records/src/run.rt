@@ -120,15 +120,10 @@ pub fn uniq_run_with<T: StreamItem + Drop, R: BufRead, W: Write, E: Write>(
         (stream W.contents out.old out.new) seen.new (stream E.contents err.old err.new) result }
 {
     let (alloc, name) = (seen.alloc, options.name);
-    let mut distinct = Distinct {
-        layout,
-        text: String::new(alloc),
-        texts: Vec::new(alloc),
-        seen: mem::replace(seen, Seen::new(alloc)),
-    };
+    let mut distinct = Distinct::new(layout, mem::replace(seen, Seen::new(alloc)));
     let source = Source::new(alloc, options);
     let parts = write_parts::<T, Distinct, R, W, E>(alloc, source, &mut distinct, reader, out, err);
-    *seen = distinct.seen;
+    *seen = distinct.into_seen();
     end_parts(alloc, name, parts, out, err)
 }
 

@@ -47,4 +47,11 @@ impl Seen {
             counts: IndexMap::with_hasher(alloc, seed),
         }
     }
+
+    /// The allocator of the index.
+    pub fn allocator(&self) -> Global
+        ensures { result ≡ self.now.alloc }
+    {
+        self.alloc
+    }
 }

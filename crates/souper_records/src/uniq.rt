@@ -1,5 +1,5 @@
 //! A sink that makes the record of the first item of each graph.
-ghost use Rattle.std.specs.Prelude.{◌≡◌, map, OnOk, string_bytes};
+ghost use Rattle.std.specs.Prelude.{◌≡◌, [], map, OnOk, string_bytes};
 ghost use Rattle.std.specs.List.{AllByRecursion};
 ghost use Rattle.souper_records.specs.Outcomes.{items_of};
 ghost use Rattle.souper_records.specs.Distinct.{tally_all};
@@ -19,15 +19,39 @@ use std::alloc::AllocError;
 use std::io::Write;
 use std::mem;
 
-/// The texts of the items of a part, and of the first item of each graph before it.
+/// The texts of the items of a part, and of the first item of each graph before it. The output of a part is the records of its distinct items.
 #[derive(Drop)]
-pub(crate) struct Distinct {
-    pub(crate) layout: Layout,
+pub struct Distinct {
+    layout: Layout,
 
-    /// For the text of one item.
-    pub(crate) text: String,
-    pub(crate) texts: Vec<String>,
-    pub(crate) seen: Seen,
+    // For the text of one item.
+    text: String,
+    texts: Vec<String>,
+    seen: Seen,
+}
+
+impl Distinct {
+    /// These items were seen, and none is taken yet.
+    pub fn new(layout: Layout, seen: Seen) -> Self
+        ensures layout { result.layout ≡ layout }
+        ensures seen { result.seen ≡ seen }
+        ensures texts { result.texts.items ≡ [] }
+    {
+        let alloc = seen.alloc;
+        Distinct {
+            layout,
+            text: String::new(alloc),
+            texts: Vec::new(alloc),
+            seen,
+        }
+    }
+
+    /// The items that were seen.
+    pub fn into_seen(self) -> Seen
+        ensures { result ≡ self.seen }
+    {
+        self.seen
+    }
 }
 
 impl<T: WholeItem + Drop> Sink<T> for Distinct {
