@@ -1,0 +1,9 @@
+mod Bools
+mod Taken
+mod Reporting
+mod Stepping
+mod Ends
+mod Floats
+mod Holding
+mod ObjectParts
+mod FlawReports

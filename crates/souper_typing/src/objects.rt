@@ -1,0 +1,296 @@
+//! A JSON object for each item of a stream, with its widths, and for each error.
+ghost use Rattle.std.specs.Prelude.{◌≡◌, ◌++◌, true, Option, IfOk, OnOk, option_map, string_bytes};
+ghost use Rattle.serde_json.specs.View.{view};
+ghost use Rattle.souper_format.specs.Streams.{stream};
+ghost use Rattle.souper_format.specs.Watching.{has_failed};
+ghost use Rattle.souper_untyped.specs.Says.{view_flaw_text};
+ghost use Rattle.souper_records.specs.Objects.{optional_number, optional_string};
+ghost use Rattle.souper_records.specs.Outcomes.{input_stream};
+ghost use Rattle.souper_typing.specs.Objects.{widths_data, typed_object, flaw_object, row_object, view_row, row_record, row_line, IsObjectRow, is_flawed_row, ObjectsHold, ObjectsWrote, IsTypedObjectsResult};
+
+use crate::layout::TypedLayout;
+use serde_json::{Value, json};
+use souper_format::watched::Watched;
+use souper_ir::ast::{Arena, Statement};
+use souper_ir::parse::{Sink, WholeItem};
+use souper_records::layout::Layout;
+use souper_records::objects::append_line;
+use souper_records::options::ReadOptions;
+use souper_records::output::{Output, Shown, part_text};
+use souper_records::parts::{Part, PartSink, Source, write_parts};
+use souper_records::records::{append_last_text, append_record_of_text, key_of};
+use souper_records::rejected::Rejected;
+use souper_records::stop::{Stop, write_text};
+use souper_stream::{ChunkSink, Start, StreamItem};
+use souper_typed::{Form, TypedItem, write_widths};
+use souper_untyped::FlawText;
+use souper_widths::WidthsError;
+use std::alloc::{AllocError, Global};
+use std::io::{BufRead, Write};
+
+// What is kept of an item: its text with its widths written, and the widths of its statements; or what is said of its flaw.
+#[derive(Drop)]
+enum Row {
+    Typed { text: String, widths: Vec<u32> },
+    Flawed(FlawText),
+}
+
+impl Row {
+    fn is_flawed(&self) -> bool
+        ensures { result ≡ is_flawed_row (view_row self.now) }
+    {
+        match self {
+            Row::Typed { .. } => false,
+            Row::Flawed(_) => true,
+        }
+    }
+}
+
+fn widths_value(alloc: Global, widths: &[u32]) -> Result<Value, AllocError>
+    ensures { IfOk result (λ value. view value ≡ widths_data widths.now) }
+{
+    let mut items = Vec::new(alloc);
+    for width in widths {
+        items.push(Value::from(*width))?;
+    }
+    Ok(Value::Array(items))
+}
+
+// A number that may be missing.
+fn number(n: Option<usize>) -> Value
+    ensures { view result ≡ optional_number n }
+{
+    match n {
+        Some(n) => Value::from(n),
+        None => Value::Null,
+    }
+}
+
+// A text that may be missing.
+fn string(alloc: Global, text: &Option<String>) -> Result<Value, AllocError>
+    ensures { IfOk result (λ value. view value ≡ optional_string (option_map string_bytes text.now)) }
+{
+    match text {
+        Some(text) => Value::try_from_str(alloc, text.as_str()),
+        None => Ok(Value::Null),
+    }
+}
+
+// The object of an item with widths, which begins at `start`.
+fn typed_object(
+    alloc: Global,
+    name: &str,
+    start: Start,
+    text: &String,
+    widths: &[u32],
+) -> Result<Value, AllocError>
+    ensures { IfOk result (λ value. view value ≡ typed_object name.now start (string_bytes text.now) widths.now) }
+{
+    let key = key_of(alloc, text.as_str())?;
+    let widths = widths_value(alloc, widths)?;
+    json!(in alloc; {
+        "file": name,
+        "key": key.as_str(),
+        "line": start.line,
+        "offset": start.offset,
+        "text": text.as_str(),
+        "widths": widths
+    })
+}
+
+// The object of an item without widths, which begins at `start`.
+fn flaw_object(
+    alloc: Global,
+    name: &str,
+    start: Start,
+    flaw: &FlawText,
+) -> Result<Value, AllocError>
+    ensures { IfOk result (λ value. view value ≡ flaw_object name.now start (view_flaw_text flaw.now)) }
+{
+    let hint = string(alloc, &flaw.hint)?;
+    json!(in alloc; {
+        "column": null,
+        "file": name,
+        "hint": hint,
+        "line": start.line,
+        "message": flaw.message.as_str(),
+        "offset": start.offset,
+        "source": flaw.line.as_str(),
+        "statement": number(flaw.statement)
+    })
+}
+
+// The object of the row of an item that begins at `start`.
+fn row_object(alloc: Global, name: &str, start: Start, row: &Row) -> Result<Value, AllocError>
+    ensures { IfOk result (λ value. view value ≡ row_object name.now start (view_row row.now)) }
+{
+    match row {
+        Row::Typed { text, widths } => typed_object(alloc, name, start, text, widths),
+        Row::Flawed(flaw) => flaw_object(alloc, name, start, flaw),
+    }
+}
+
+impl Shown for Row {
+    ghost as_records = { λ layout row. row_record layout (view_row row) };
+
+    ghost as_lines = { λ name row. row_line name (row.0, view_row row.1) };
+
+    fn append_records(
+        &self,
+        alloc: Global,
+        layout: Layout,
+        out: &mut String,
+    ) -> Result<(), AllocError> {
+        match self {
+            Row::Typed { text, .. } => append_record_of_text(alloc, layout, text.as_str(), out),
+            Row::Flawed(_) => Ok(()),
+        }
+    }
+
+    fn append_lines(
+        &self,
+        alloc: Global,
+        name: &str,
+        start: Start,
+        out: &mut String,
+    ) -> Result<(), AllocError> {
+        let object = row_object(alloc, name, start, self)?;
+        append_line(alloc, &object, out)
+    }
+}
+
+// The row of an item that is dropped then. `text` is for its text.
+fn row_of<T: TypedItem + Drop>(
+    alloc: Global,
+    form: Form,
+    rename: bool,
+    item: &mut T,
+    text: &mut String,
+) -> Result<Row, AllocError>
+    ensures { IfOk result (λ row. IsObjectRow form rename (T.view item.old) (view_row row)) }
+{
+    match write_widths(item, form) {
+        Ok(widths) => {
+            text.clear();
+            append_last_text(rename, item, text)?;
+            Ok(Row::Typed {
+                text: String::from_str(alloc, text.as_str())?,
+                widths: widths.results,
+            })
+        }
+        Err(WidthsError::Flawed(flaw)) => Ok(Row::Flawed(FlawText::new(alloc, item, flaw)?)),
+        // An item that was read is well formed, so the error is out of memory.
+        Err(_) => Err(AllocError),
+    }
+}
+
+// The rows of the items of a part.
+#[derive(Drop)]
+struct Objects {
+    alloc: Global,
+    form: Form,
+
+    // Whether the texts have names by the printed order.
+    rename: bool,
+
+    // For the text of one item.
+    text: String,
+    rows: Vec<Row>,
+
+    // Whether an item of the part has no widths.
+    any: bool,
+
+    // Whether one of the parts before has.
+    untyped: bool,
+}
+
+impl<T: WholeItem + TypedItem + Drop> Sink<T> for Objects {
+    ghost holds = { λ first objects items. ObjectsHold first objects items };
+
+    fn take(&mut self, item: T) -> Result<(), AllocError> {
+        Sink::<T>::take_over(self, item)?;
+        Ok(())
+    }
+
+    fn take_over(&mut self, mut item: T) -> Result<Option<Arena<Statement>>, AllocError> {
+        let row = row_of(
+            self.alloc,
+            self.form,
+            self.rename,
+            &mut item,
+            &mut self.text,
+        )?;
+        self.any |= row.is_flawed();
+        self.rows.push(row)?;
+        Ok(item.take_statements())
+    }
+}
+
+impl<T: WholeItem + TypedItem + Drop> ChunkSink<T> for Objects {
+    fn rollback(&mut self) {
+        self.rows.clear();
+        self.any = false;
+    }
+}
+
+// Writes the objects of each part, and drops the rows.
+impl<T: StreamItem + TypedItem + Drop> PartSink<T> for Objects {
+    ghost wrote = { λ name a x b y os. ObjectsWrote name a x b y os };
+
+    fn write_part<W: Write>(
+        &mut self,
+        alloc: Global,
+        part: Part<'_>,
+        refusal: Option<Rejected<'_>>,
+        out: &mut Watched<W>,
+    ) -> Result<(), Stop> {
+        let output = Output::Objects {
+            rename: self.rename,
+        };
+        let lines = part_text(alloc, output, part, refusal, &self.rows)?;
+        write_text(&lines, out)?;
+        self.rows.clear();
+        self.untyped |= self.any;
+        self.any = false;
+        Ok(())
+    }
+}
+
+/// Writes a JSON object for each item of the stream and each parse error, in order, as
+/// [`write_objects`](souper_records::objects::write_objects) does, and fails like it. Returns whether there was an error.
+///
+/// The text of an item has its widths written, in the form of the layout and with its names. Its object has `widths` besides: that of each statement's result, 0 for none. An item
+/// without widths has an object like that of a parse error, at its first token, with the line of the `statement` that has the flaw as
+/// `source`, and its number; null at a last line.
+pub fn write_typed_objects<T: StreamItem + TypedItem + Drop, R: BufRead, W: Write, E: Write>(
+    alloc: Global,
+    layout: TypedLayout,
+    options: ReadOptions<'_>,
+    reader: &mut R,
+    out: &mut Watched<W>,
+    err: &mut Watched<E>,
+) -> Result<bool, Stop>
+    ensures returned { IsTypedObjectsResult layout.form layout.layout.rename (input_stream T.item_type options.entry (R.remaining reader.old)) (R.remaining reader.new)
+        (stream W.contents out.old out.new) (stream E.contents err.old err.new) result }
+    ensures stays { has_failed err.old ≡ true → has_failed err.new ≡ true }
+{
+    let mut objects = Objects {
+        alloc,
+        form: layout.form,
+        rename: layout.layout.rename,
+        text: String::new(alloc),
+        rows: Vec::new(alloc),
+        any: false,
+        untyped: false,
+    };
+    let source = Source::with_starts(alloc, options);
+    let refused = write_parts::<T, Objects, R, W, E>(
+        alloc,
+        source,
+        &mut objects,
+        reader,
+        out,
+        err,
+    )?;
+    Ok(refused | objects.untyped)
+}
