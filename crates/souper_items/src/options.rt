@@ -7,6 +7,7 @@ use souper_find::search::Choice;
 use souper_hint::Kind;
 use souper_records::layout::{Delimiter, Layout, Summary};
 use souper_records::output::Output;
+use souper_typed::Form;
 
 /// When errors have colors.
 #[derive(Clone, Copy)]
@@ -26,11 +27,14 @@ pub(crate) enum Action {
     /// Each replacement is written with the key of its left-hand side.
     Keyed(Output),
 
-    /// The record of the first of each graph is written.
-    Uniq(Layout),
+    /// The same as `Format`, of each with its widths; an item without widths is an error.
+    Typed(Form, Output),
+
+    /// The record of the first of each graph is written, if asked for with its widths.
+    Uniq(Option<Form>, Layout),
 
     /// The same after all streams, of the graphs and with the counts that are asked for.
-    Count(Layout, Summary),
+    Count(Option<Form>, Layout, Summary),
 
     /// Each file is rewritten by its canonical text.
     Write(Rewriting),
@@ -43,12 +47,15 @@ pub(crate) enum Action {
 
     /// The name of each file that is not canonical is written.
     List,
+
+    /// Whether all items of the stream have widths is found out.
+    Widths,
 }
 
 impl Action {
     /// Whether the output for an item depends on the items before it.
     pub(crate) fn remembers(self) -> bool {
-        matches!(self, Action::Uniq(_) | Action::Count(..))
+        matches!(self, Action::Uniq(..) | Action::Count(..))
     }
 
     /// Whether JSON objects are written, and parse errors have such.
@@ -56,6 +63,7 @@ impl Action {
         matches!(
             self,
             Action::Format(Output::Objects { .. })
+                | Action::Typed(_, Output::Objects { .. })
                 | Action::Keyed(Output::Objects { .. })
                 | Action::Find {
                     output: Output::Objects { .. },
@@ -68,7 +76,10 @@ impl Action {
     pub(crate) fn is_silent(self) -> bool {
         matches!(
             self,
-            Action::Count(..) | Action::Write(_) | Action::Check { diff: false }
+            Action::Count(..)
+                | Action::Write(_)
+                | Action::Check { diff: false }
+                | Action::Widths
         )
     }
 }
@@ -168,9 +179,21 @@ fn read_choice(options: &ArgMatches<'_>) -> Choice {
     }
 }
 
+// How much of the widths is written, if that is asked for.
+fn read_form(options: &ArgMatches<'_>) -> Option<Form> {
+    if options.get_flag("complete") {
+        Some(Form::Complete)
+    } else if options.get_flag("widths") {
+        Some(Form::Widths)
+    } else {
+        None
+    }
+}
+
 // A flag that the command has not is false.
 fn read_action(name: &str, options: &ArgMatches<'_>) -> Option<Action> {
     let (layout, output) = (read_layout(options), read_output(options));
+    let form = read_form(options);
     let summary = Summary {
         counts: options.get_flag("count"),
         repeated: options.get_flag("repeated"),
@@ -182,14 +205,20 @@ fn read_action(name: &str, options: &ArgMatches<'_>) -> Option<Action> {
             quiet: options.get_flag("quiet"),
         })),
         "format" if options.get_flag("lhs-key") => Some(Action::Keyed(output)),
-        "format" => Some(Action::Format(output)),
-        "uniq" if summary.counts || summary.repeated => Some(Action::Count(layout, summary)),
-        "uniq" => Some(Action::Uniq(layout)),
+        "format" => Some(match form {
+            Some(form) => Action::Typed(form, output),
+            None => Action::Format(output),
+        }),
+        "uniq" if summary.counts || summary.repeated => {
+            Some(Action::Count(form, layout, summary))
+        }
+        "uniq" => Some(Action::Uniq(form, layout)),
         "find" => Some(Action::Find {
             choice: read_choice(options),
             output,
         }),
         "check" if options.get_flag("list") => Some(Action::List),
+        "check" if form.is_some() => Some(Action::Widths),
         "check" => Some(Action::Check {
             diff: options.get_flag("diff"),
         }),

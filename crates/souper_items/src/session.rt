@@ -5,7 +5,7 @@ use crate::folders::{expand, kind_of_name};
 use crate::hint::hint;
 use crate::input::Input;
 use crate::losses::say_would_be_lost;
-use crate::objects::{end_objects, rows};
+use crate::objects::{end_objects, rows, typed_objects};
 use crate::options::{Action, Task};
 use crate::rewrite::rewrite;
 use crate::same_file::{FileId, file_id};
@@ -19,13 +19,16 @@ use souper_hint::Kind;
 use souper_ir::ast::{LeftHandSide, Replacement, RightHandSide};
 use souper_lookup::store::Store;
 use souper_records::check::check_run;
-use souper_records::layout::Layout;
+use souper_records::layout::{Layout, PLAIN};
 use souper_records::options::ReadOptions;
 use souper_records::output::Output;
 use souper_records::run::{count_run, each_run_with, end_parts, uniq_run_with};
 use souper_records::seen::Seen;
 use souper_records::stop::{ReadFault, Stop};
 use souper_stream::StreamItem;
+use souper_typed::{Form, TypedItem};
+use souper_typing::layout::TypedLayout;
+use souper_typing::run::{typed_run, typed_uniq_run};
 use souper_watched::Watched;
 use std::cell::Cell;
 use std::fs::File;
@@ -59,16 +62,34 @@ struct Session<'s, W, E> {
     output: Option<FileId>,
 }
 
+// Writes the distinct items of a stream, if asked for with their widths. Returns a status of the program.
+fn uniq<T: StreamItem + TypedItem + Drop, R: BufRead, W: Write, E: Write>(
+    (form, layout): (Option<Form>, Layout),
+    options: ReadOptions<'_>,
+    seen: &mut Seen,
+    reader: &mut R,
+    out: &mut Watched<W>,
+    err: &mut Watched<E>,
+) -> u8 {
+    match form {
+        Some(form) => {
+            let layout = TypedLayout { form, layout };
+            typed_uniq_run::<T, R, W, E>(layout, options, seen, reader, out, err)
+        }
+        None => uniq_run_with::<T, R, W, E>(layout, options, seen, reader, out, err),
+    }
+}
+
 // Each method returns a status of the program.
 impl<'s, W: Write, E: Write> Session<'s, W, E> {
     // A stream of items of the type.
-    fn items<T: StreamItem + Drop, R: BufRead>(
+    fn items<T: StreamItem + TypedItem + Drop, R: BufRead>(
         &mut self,
         options: ReadOptions<'_>,
         reader: &mut R,
     ) -> u8 {
         let (alloc, name, hints) = (self.rt.alloc(), options.name, options.hints);
-        let (seen, out, err) = (&mut self.seen, &mut self.out, &mut self.err);
+        let (out, err) = (&mut self.out, &mut self.err);
         match self.task.action {
             Action::Format(Output::Records(layout)) => {
                 each_run_with::<T, R, W, E>(alloc, layout, options, reader, out, err)
@@ -76,17 +97,41 @@ impl<'s, W: Write, E: Write> Session<'s, W, E> {
             Action::Format(objects) => {
                 rows::<T, String, Output, R, W, E>(alloc, objects, options, reader, out, err)
             }
-            Action::Uniq(layout) => {
-                uniq_run_with::<T, R, W, E>(layout, options, seen, reader, out, err)
+            Action::Typed(form, Output::Records(layout)) => {
+                let layout = TypedLayout { form, layout };
+                typed_run::<T, R, W, E>(alloc, layout, options, reader, out, err)
+            }
+            Action::Typed(form, Output::Objects { rename }) => {
+                let layout = Layout { rename, ..PLAIN };
+                let layout = TypedLayout { form, layout };
+                typed_objects::<T, R, W, E>(alloc, layout, options, reader, out, err)
+            }
+            Action::Widths => {
+                let layout = TypedLayout {
+                    form: Form::Widths,
+                    layout: PLAIN,
+                };
+                let mut none = Watched::new(io::sink());
+                typed_run::<T, R, io::Sink, E>(alloc, layout, options, reader, &mut none, err)
+            }
+            Action::Uniq(form, layout) => {
+                uniq::<T, R, W, E>((form, layout), options, &mut self.seen, reader, out, err)
             }
             // The records come at the end.
-            Action::Count(layout, _) => {
+            Action::Count(form, layout, _) => {
                 let layout = Layout {
                     key: false,
                     ..layout
                 };
                 let mut none = Watched::new(io::sink());
-                uniq_run_with::<T, R, io::Sink, E>(layout, options, seen, reader, &mut none, err)
+                uniq::<T, R, io::Sink, E>(
+                    (form, layout),
+                    options,
+                    &mut self.seen,
+                    reader,
+                    &mut none,
+                    err,
+                )
             }
             Action::Check { diff: false } => {
                 check_run::<T, R, E>(alloc, reader, name, hints, err)
@@ -273,7 +318,7 @@ impl<'s, W: Write, E: Write> Session<'s, W, E> {
         let status = self.read_files(&mut meter);
         meter.clear();
         match self.task.action {
-            Action::Count(layout, summary) if status != 2 => status.max(count_run(
+            Action::Count(_, layout, summary) if status != 2 => status.max(count_run(
                 self.rt.alloc(),
                 layout,
                 summary,
