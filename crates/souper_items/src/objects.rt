@@ -9,8 +9,7 @@ use souper_records::run::end_parts;
 use souper_records::stop::{ReadFault, Stop};
 use souper_stream::StreamItem;
 use souper_typed::TypedItem;
-use souper_typing::layout::TypedLayout;
-use souper_typing::objects::write_typed_objects;
+use souper_typing::objects::{TypedObjects, write_typed_objects};
 use souper_watched::Watched;
 use std::alloc::{AllocError, Global};
 use std::io;
@@ -85,13 +84,13 @@ pub(crate) fn rows<T: StreamItem + Drop, V: Shown, M: Rows<T, V>, R: BufRead, W:
 /// As [`rows`] of objects, of items with their widths and of items without.
 pub(crate) fn typed_objects<T: StreamItem + TypedItem + Drop, R: BufRead, W: Write, E: Write>(
     alloc: Global,
-    layout: TypedLayout,
+    maker: TypedObjects,
     options: ReadOptions<'_>,
     reader: &mut R,
     out: &mut Watched<W>,
     err: &mut Watched<E>,
 ) -> u8 {
     let (name, none) = (options.name, &mut Watched::new(io::sink()));
-    let parts = write_typed_objects::<T, R, W, io::Sink>(alloc, layout, options, reader, out, none);
+    let parts = write_typed_objects::<T, R, W, io::Sink>(alloc, maker, options, reader, out, none);
     end_objects(alloc, name, parts, out, err)
 }

@@ -76,10 +76,7 @@ impl Action {
     pub(crate) fn is_silent(self) -> bool {
         matches!(
             self,
-            Action::Count(..)
-                | Action::Write(_)
-                | Action::Check { diff: false }
-                | Action::Widths
+            Action::Count(..) | Action::Write(_) | Action::Check { diff: false } | Action::Widths
         )
     }
 }

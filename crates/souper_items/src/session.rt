@@ -28,6 +28,7 @@ use souper_records::stop::{ReadFault, Stop};
 use souper_stream::StreamItem;
 use souper_typed::{Form, TypedItem};
 use souper_typing::layout::TypedLayout;
+use souper_typing::objects::TypedObjects;
 use souper_typing::run::{typed_run, typed_uniq_run};
 use souper_watched::Watched;
 use std::cell::Cell;
@@ -102,9 +103,8 @@ impl<'s, W: Write, E: Write> Session<'s, W, E> {
                 typed_run::<T, R, W, E>(alloc, layout, options, reader, out, err)
             }
             Action::Typed(form, Output::Objects { rename }) => {
-                let layout = Layout { rename, ..PLAIN };
-                let layout = TypedLayout { form, layout };
-                typed_objects::<T, R, W, E>(alloc, layout, options, reader, out, err)
+                let maker = TypedObjects { form, rename };
+                typed_objects::<T, R, W, E>(alloc, maker, options, reader, out, err)
             }
             Action::Widths => {
                 let layout = TypedLayout {

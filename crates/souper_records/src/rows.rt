@@ -1,5 +1,5 @@
 //! Runs that keep a row of each item, and write the rows of each part.
-ghost use Rattle.std.specs.Prelude.{◌≡◌, ℕ, true, List, IfOk, string_bytes};
+ghost use Rattle.std.specs.Prelude.{◌≡◌, ℕ, [], true, List, IfOk, string_bytes};
 ghost use Rattle.std.specs.List.{AllZip};
 ghost use Rattle.std.specs.Io.KnownBytes.{Appends};
 ghost use Rattle.souper_records.specs.Prelude.{Item, WellFormed, stream, has_failed};
@@ -58,15 +58,32 @@ impl<T: WholeItem + Drop> Rows<T, String> for Output {
     }
 }
 
-// The rows of the items of a part.
+/// The rows of the items that were taken, each made by the maker. The output of a part is what is written for them.
 #[derive(Drop)]
-struct RowSink<M, V: Drop> {
+pub struct RowSink<M, V: Drop> {
     alloc: Global,
     maker: M,
 
     // For the text of one item.
     text: String,
-    rows: Vec<V>,
+
+    /// The rows of the items of a part, in order.
+    pub rows: Vec<V>,
+}
+
+impl<M, V: Drop> RowSink<M, V> {
+    /// No item was taken.
+    pub fn new(alloc: Global, maker: M) -> Self
+        ensures maker { result.maker ≡ maker }
+        ensures rows { result.rows.items ≡ [] }
+    {
+        RowSink {
+            alloc,
+            maker,
+            text: String::new(alloc),
+            rows: Vec::new(alloc),
+        }
+    }
 }
 
 impl<T: WholeItem + Drop, V: Drop, M: Rows<T, V>> Sink<T> for RowSink<M, V> {
@@ -115,12 +132,7 @@ pub fn write_rows<T: StreamItem + Drop, V: Shown, M: Rows<T, V>, R: BufRead, W: 
         IsPartsResult (input_stream T.item_type options.entry (R.remaining reader.old)) (R.remaining reader.new) rows rows (has_failed out.new) (stream E.contents err.old err.new) result }
     ensures stays { has_failed err.old ≡ true → has_failed err.new ≡ true }
 {
-    let mut sink = RowSink {
-        alloc,
-        maker,
-        text: String::new(alloc),
-        rows: Vec::new(alloc),
-    };
+    let mut sink = RowSink::new(alloc, maker);
     let source = Source::with_starts(alloc, options);
     write_parts::<T, RowSink<M, V>, R, W, E>(alloc, source, &mut sink, reader, out, err)
 }

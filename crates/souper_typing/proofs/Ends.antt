@@ -4,10 +4,10 @@ use Rattle.std.specs.declared.io.Error.{Error}
 use Rattle.std.specs.List.{list_any}
 use Rattle.std.proofs.lemmas.Bool.{false_from_ne_true, both_ways}
 use Rattle.std.proofs.KnownBytes.{Appends-trans, Appends-kept, Keeps-trans}
-use Rattle.souper_format.specs.Streams.{Stream, stream, IsGivenNothing}
-use Rattle.souper_format.specs.Watching.{has_failed}
-use Rattle.souper_format.specs.Reporting.{Reported}
-use Rattle.souper_format.specs.declared.watched.Watched.{Watched}
+use Rattle.souper_watched.specs.Streams.{Stream, stream, IsGivenNothing}
+use Rattle.souper_watched.specs.Watching.{has_failed}
+use Rattle.souper_watched.specs.Streams.{Reported}
+use Rattle.souper_watched.specs.declared.Watched.{Watched}
 use Rattle.souper_stream.specs.declared.reader.ItemReader.{ItemReader}
 use Rattle.souper_stream.specs.Parts.{HasAll, keeps_starts}
 use Rattle.souper_typed.specs.declared.form.Form.{Form}

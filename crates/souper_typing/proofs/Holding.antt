@@ -1,5 +1,5 @@
 -- What the sink holds that writes widths.
-use Rattle.std.proofs.Common.{◌≡◌, ◌⊎◌, inl, inr, ◌||◌, ℕ, Bool, true, false, List, [], ◌∷◌, ◌++◌, map, if◌then◌else◌, Option, None, Some, Ok, Err, option_map, refl, sym, ap, subst, ◌∙◌, append-nil, String, string_bytes}
+use Rattle.std.proofs.Common.{◌≡◌, ◌⊎◌, inl, inr, ◌||◌, ℕ, Bool, true, false, List, [], ◌∷◌, ◌++◌, map, Option, None, Some, Ok, Err, option_map, refl, sym, ap, subst, ◌∙◌, append-nil, String, string_bytes}
 use Rattle.std.specs.declared.alloc.Global.{Global}
 use Rattle.std.specs.List.{list_any}
 use Rattle.std.proofs.lemmas.List.{map-append}
@@ -11,8 +11,7 @@ use Rattle.souper_typed.specs.declared.form.Form.{Form}
 use Rattle.souper_records.specs.Outcomes.{Outcome}
 use Rattle.souper_typing.specs.declared.widened.Widened.{Widened}
 use Rattle.souper_typing.specs.Rows.{Row, IsRow, typed_item, typed_of, flaw_lines, is_flawed, any_flawed, IsTaken}
-use Rattle.souper_stream.specs.declared.starts.Start.{Start}
-use Rattle.souper_typing.specs.Parts.{Rowed, flaw_reports, outcomes_of, typed_outcome, typed_outcomes, AreTaken, part_report}
+use Rattle.souper_typing.specs.Parts.{Rowed, outcomes_of, typed_outcome, typed_outcomes, AreTaken, part_report}
 use Rattle.souper_typing.specs.Widened.{WidenedHolds, EndsWithReport, WidenedWrote}
 use Rattle.souper_typing.proofs.Bools.{or_false, or_true}
 use Rattle.souper_typing.proofs.Taken.{none_taken, no_rows, skipped, typed_more, flawed_more}
@@ -106,11 +105,3 @@ wrote_more holds wrote name a z b c x u v os o form recover w h report more =
 -- the idle inner sink
 pub idle_inner : {S : Type 0} (holds : S → S → List Item → Type 0) (a : Widened S) → WidenedHolds holds a a [] → holds a.inner a.inner []
 idle_inner holds a h = subst (λ (rows : List Row). holds a.inner a.inner (typed_of rows)) (no_rows a.recover a.form h.rows h.taken) h.inner
-
--- the report of a part with an item without widths
-pub report_made : (name text : List ℕ) (p : Rowed) (starts : List Start) (flaws : List (Option (List ℕ))) → any_flawed p.rows ≡ true → text ≡ flaw_reports name starts flaws → p.outcome.starts ≡ starts → flaws ≡ map flaw_lines p.rows → Some text ≡ part_report name p
-report_made name text p starts flaws any made begin are = ap (λ (t : List ℕ). Some t) made ∙ (λ i. if sym any i then Some (flaw_reports name (sym begin i) (are i)) else None)
-
--- of one without
-pub none_made : (name : List ℕ) (p : Rowed) → any_flawed p.rows ≡ false → None ≡ part_report name p
-none_made name p any = λ i. if sym any i then Some (flaw_reports name p.outcome.starts (map flaw_lines p.rows)) else None

@@ -5,5 +5,5 @@ mod Stepping
 mod Ends
 mod Floats
 mod Holding
-mod ObjectParts
+mod ObjectRows
 mod FlawReports

@@ -4,9 +4,9 @@ use Rattle.std.specs.List.{list_any, cons_option}
 use Rattle.std.proofs.lemmas.Bool.{false_from_ne_true, both_ways}
 use Rattle.std.proofs.lemmas.List.Folds.{list_any-append}
 use Rattle.std.proofs.KnownBytes.{Appends-nil, Appends-trans, Appends-kept, Keeps-trans}
-use Rattle.souper_format.specs.Streams.{Stream, stream, IsGiven, IsGivenNothing}
-use Rattle.souper_format.specs.Watching.{has_failed}
-use Rattle.souper_format.specs.declared.watched.Watched.{Watched}
+use Rattle.souper_watched.specs.Streams.{Stream, stream, IsGiven, IsGivenNothing}
+use Rattle.souper_watched.specs.Watching.{has_failed}
+use Rattle.souper_watched.specs.declared.Watched.{Watched}
 use Rattle.souper_records.specs.Reports.{Refusal}
 use Rattle.souper_records.specs.Outcomes.{Outcome, refusals_of, AreErrorLines, AreReported}
 use Rattle.souper_typing.specs.Rows.{flaw_lines}

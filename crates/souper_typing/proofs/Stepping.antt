@@ -6,9 +6,9 @@ use Rattle.std.proofs.lemmas.List.{map-append}
 use Rattle.std.proofs.lemmas.List.Folds.{list_any-append}
 use Rattle.std.proofs.KnownBytes.{Keeps-refl}
 use Rattle.souper_graph.proofs.Judging.Closed.{All-both}
-use Rattle.souper_format.specs.Streams.{Stream, stream}
-use Rattle.souper_format.specs.Watching.{has_failed}
-use Rattle.souper_format.specs.declared.watched.Watched.{Watched}
+use Rattle.souper_watched.specs.Streams.{Stream, stream}
+use Rattle.souper_watched.specs.Watching.{has_failed}
+use Rattle.souper_watched.specs.declared.Watched.{Watched}
 use Rattle.souper_stream.specs.declared.reader.ItemReader.{ItemReader}
 use Rattle.souper_stream.specs.Segments.{Line}
 use Rattle.souper_typed.specs.declared.form.Form.{Form}

@@ -1,6 +1,6 @@
 -- Definitions. The JSON objects of items with their widths, and of items without.
-use Rattle.std.specs.Prelude.{◌≡◌, ◌||◌, ℕ, Bool, true, false, List, [], ◌++◌, map, flat_map, codes, Option, Result, Ok, Err, string_bytes}
-use Rattle.std.specs.List.{AllZip, AllByRecursion, zip, list_any}
+use Rattle.std.specs.Prelude.{◌≡◌, ◌||◌, ℕ, Bool, true, false, List, [], map, codes, Option, Result, Ok, Err, string_bytes}
+use Rattle.std.specs.List.{AllByRecursion}
 use Rattle.std.specs.Io.KnownBytes.{Appends}
 use Rattle.serde_json.specs.Data.{Data, null, number, unsigned, string, array, object, member, no_members}
 use Rattle.serde_json.specs.View.{items_of}
@@ -12,22 +12,27 @@ use Rattle.souper_typed.specs.declared.form.Form.{Form}
 use Rattle.souper_typed.specs.Written.{IsWritten}
 use Rattle.souper_untyped.specs.Says.{Says, says_of, view_flaw_text}
 use Rattle.souper_stream.specs.declared.starts.Start.{Start}
-use Rattle.souper_format.specs.Streams.{Stream, IsGiven}
+use Rattle.souper_watched.specs.Streams.{Stream}
 use Rattle.souper_records.specs.declared.layout.Layout.{Layout}
 use Rattle.souper_records.specs.declared.stop.Stop.{Stop}
 use Rattle.souper_records.specs.Records.{key_of, record_of_text}
 use Rattle.souper_records.specs.Uniques.{text_by}
-use Rattle.souper_records.specs.Objects.{optional_number, optional_string, object_line, refusal_line}
-use Rattle.souper_records.specs.Outcomes.{InputStream, Outcome, HaveItemStarts, WritesParts, StopsAfter}
-use Rattle.souper_typing.specs.declared.objects.Row.{Row}
-use Rattle.souper_typing.specs.declared.objects.Row.TheVariants.{Typed, Flawed}
-use Rattle.souper_typing.specs.declared.objects.Objects.{Objects}
+use Rattle.souper_records.specs.declared.output.Output.{Output}
+use Rattle.souper_records.specs.declared.output.Output.TheVariants.{Objects}
+use Rattle.souper_records.specs.Distinct.{HoldsOfOne}
+use Rattle.souper_records.specs.Objects.{optional_number, optional_string, object_line}
+use Rattle.souper_records.specs.Outputs.{outcome_text, AreRowTexts, WritesRows}
+use Rattle.souper_records.specs.Outcomes.{InputStream, Outcome, items_of, WritesParts, StopsAfter}
+use Rattle.souper_typing.specs.declared.objects.TypedRow.{TypedRow}
+use Rattle.souper_typing.specs.declared.objects.TypedRow.TheVariants.{Typed, Flawed}
+use Rattle.souper_typing.specs.declared.objects.TypedObjects.{TypedObjects}
+use Rattle.souper_typing.specs.declared.objects.Objects.{Objects as ObjectSink}
 
 -- the text of an item with its widths written, and the widths of its statements; or what is said of its flaw
 abbrev pub ObjectRow : Type 0
 ObjectRow = Result (List ℕ × List ℕ) Says
 
-abbrev pub view_row : Row → ObjectRow
+abbrev pub view_row : TypedRow → ObjectRow
 view_row (Typed text widths) = Ok (string_bytes text, widths.items)
 view_row (Flawed t) = Err (view_flaw_text t)
 
@@ -35,9 +40,13 @@ abbrev pub IsObjectRow : Form → Bool → Item → ObjectRow → Type 0
 IsObjectRow f rename a (Ok p) = (m : WidthMap) × (b : Item) × IsWritten f m a b × (p.0 ≡ text_by rename b) × (p.1 ≡ m.results)
 IsObjectRow f rename a (Err s) = (flaw : WidthFlaw) × IsFirstWidthFlaw a flaw × (s ≡ says_of a flaw)
 
-abbrev pub is_flawed_row : ObjectRow → Bool
-is_flawed_row (Ok p) = false
-is_flawed_row (Err s) = true
+abbrev pub is_flawed_row : TypedRow → Bool
+is_flawed_row (Typed text widths) = false
+is_flawed_row (Flawed t) = true
+
+-- a row that these make of an item
+abbrev pub IsRowOf : TypedObjects → Item → TypedRow → Type 0
+IsRowOf maker a row = IsObjectRow maker.form maker.rename a (view_row row)
 
 abbrev pub widths_data : List ℕ → Data
 widths_data ns = array (items_of (map (λ (n : ℕ). number (unsigned n)) ns))
@@ -65,56 +74,40 @@ abbrev pub row_record : Layout → ObjectRow → List ℕ
 row_record l (Ok p) = record_of_text l p.0
 row_record l (Err s) = []
 
--- the outcome of a part, and the rows of its items
-pub record ObjectPart : Type 0 where
-  pub outcome : Outcome
-  pub rows : List ObjectRow
+abbrev pub objects_of : TypedObjects → Output
+objects_of maker = Objects maker.rename
 
-abbrev pub object_outcomes : List ObjectPart → List Outcome
-object_outcomes parts = map (λ (p : ObjectPart). p.outcome) parts
+-- what is written for the rows of a part
+abbrev pub rows_text : TypedObjects → List ℕ → Outcome → List TypedRow → List ℕ
+rows_text maker name = outcome_text {V = TypedRow} (λ l r. row_record l (view_row r)) (λ n p. row_line n (p.0, view_row p.1)) (objects_of maker) name
 
-abbrev pub AreObjectRows : Form → Bool → List ObjectPart → Type 0
-AreObjectRows f rename parts = AllByRecursion (λ (p : ObjectPart). AllZip (IsObjectRow f rename) p.outcome.items p.rows) parts
+-- the item has widths, and is written with them
+abbrev pub HasForm : Form → Item → Type 0
+HasForm f a = (m : WidthMap) × (b : Item) × IsWritten f m a b
 
--- the lines of the items of a part, and then of its parse error, if it is rejected
-abbrev pub part_objects : List ℕ → ObjectPart → List ℕ
-part_objects name p = flat_map (row_line name) (zip p.outcome.starts p.rows) ++ refusal_line name p.outcome.refusal
+-- the item has none
+abbrev pub IsUntyped : Item → Type 0
+IsUntyped a = (flaw : WidthFlaw) × IsFirstWidthFlaw a flaw
 
-abbrev pub objects_text : List ℕ → List ObjectPart → List ℕ
-objects_text name parts = flat_map (part_objects name) parts
+-- whether one of the items has no widths
+abbrev pub TellsUntyped : Form → Bool → List Item → Type 0
+TellsUntyped f true items = HoldsOfOne IsUntyped items
+TellsUntyped f false items = AllByRecursion (HasForm f) items
 
-abbrev pub has_flawed_row : ObjectPart → Bool
-has_flawed_row p = list_any is_flawed_row p.rows
+pub record ObjectsWrote (name : List ℕ) (a : ObjectSink) (x : Option (List ℕ)) (b : ObjectSink) (y : Option (List ℕ)) (os : List Outcome) : Type 0 where
+  pub maker : b.rows.maker ≡ a.rows.maker
+  pub text : List ℕ
+  pub are : AreRowTexts (IsRowOf a.rows.maker) (rows_text a.rows.maker name) os text
+  pub written : Appends x y text
+  pub more : Bool
+  pub untyped : b.untyped ≡ (a.untyped || more)
+  pub tells : TellsUntyped a.rows.maker.form more (items_of os)
 
-abbrev pub any_flawed_row : List ObjectPart → Bool
-any_flawed_row parts = list_any has_flawed_row parts
-
-pub record ObjectsHold (a b : Objects) (items : List Item) : Type 0 where
-  pub form : b.form ≡ a.form
-  pub rename : b.rename ≡ a.rename
-  pub untyped : b.untyped ≡ a.untyped
-  pub any : b.any ≡ list_any is_flawed_row (map view_row b.rows.items)
-  pub rows : AllZip (IsObjectRow a.form a.rename) items (map view_row b.rows.items)
-
-pub record ObjectsWrote (name : List ℕ) (a : Objects) (x : Option (List ℕ)) (b : Objects) (y : Option (List ℕ)) (os : List Outcome) : Type 0 where
-  pub form : b.form ≡ a.form
-  pub rename : b.rename ≡ a.rename
-  pub parts : List ObjectPart
-  pub are : object_outcomes parts ≡ os
-  pub each : AreObjectRows a.form a.rename parts
-  pub written : Appends x y (objects_text name parts)
-  pub untyped : b.untyped ≡ (a.untyped || any_flawed_row parts)
-
--- the lines of these parts were written, and nothing else; their items begin there
-pub record WritesTypedObjects (f : Form) (rename : Bool) (r : InputStream) (out : Stream) (untyped : Bool) (os : List Outcome) : Type 0 where
-  pub parts : List ObjectPart
-  pub are : object_outcomes parts ≡ os
-  pub each : AreObjectRows f rename parts
-  pub written : IsGiven out (objects_text r.name parts)
-  pub starts : HaveItemStarts r.kind [] os
-  pub any : untyped ≡ any_flawed_row parts
+-- the objects of the items were written, and nothing else; the items begin where these say; and whether one has no widths
+abbrev pub WritesTypedObjects : TypedObjects → InputStream → Stream → Bool → List Outcome → Type 0
+WritesTypedObjects maker r out untyped os = WritesRows (IsRowOf maker) (rows_text maker r.name) r.kind out os × TellsUntyped maker.form untyped (items_of os)
 
 -- whether a part is rejected or an item has no widths; or why writing stopped
-abbrev pub IsTypedObjectsResult : Form → Bool → InputStream → Option (List ℕ) → Stream → Stream → Result Bool Stop → Type 0
-IsTypedObjectsResult f rename r after out err (Ok bad) = (refused : Bool) × (untyped : Bool) × (bad ≡ (refused || untyped)) × WritesParts r after (WritesTypedObjects f rename r out untyped) err refused
-IsTypedObjectsResult f rename r after out err (Err stop) = StopsAfter r (λ os. (untyped : Bool) × WritesTypedObjects f rename r out untyped os) out.failed err stop
+abbrev pub IsTypedObjectsResult : TypedObjects → InputStream → Option (List ℕ) → Stream → Stream → Result Bool Stop → Type 0
+IsTypedObjectsResult maker r after out err (Ok bad) = (refused : Bool) × (untyped : Bool) × (bad ≡ (refused || untyped)) × WritesParts r after (WritesTypedObjects maker r out untyped) err refused
+IsTypedObjectsResult maker r after out err (Err stop) = StopsAfter r (λ os. (untyped : Bool) × WritesTypedObjects maker r out untyped os) out.failed err stop

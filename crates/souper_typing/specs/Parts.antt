@@ -1,7 +1,7 @@
 -- Definitions. The parts of a stream with the rows of their items, and what is reported of them.
 use Rattle.std.specs.Prelude.{◌≡◌, ℕ, Bool, true, false, ◌||◌, List, [], ◌∷◌, ◌++◌, map, flat_map, codes, decimal, is_some, if◌then◌else◌, Option, Some, None}
 use Rattle.std.specs.List.{zip, list_any, AllByRecursion}
-use Rattle.souper_format.specs.Streams.{Stream, IsGiven, IsGivenNothing}
+use Rattle.souper_watched.specs.Streams.{Stream, IsGiven, IsGivenNothing}
 use Rattle.souper_stream.specs.declared.starts.Start.{Start}
 use Rattle.souper_typed.specs.declared.form.Form.{Form}
 use Rattle.souper_records.specs.Outcomes.{Outcome, refusals_of, AreErrorLines}
@@ -40,12 +40,13 @@ flaw_report name start (Some lines) = name ++ (codes ":" ++ (decimal start.line 
 abbrev pub flaw_reports : List ℕ → List Start → List (Option (List ℕ)) → List ℕ
 flaw_reports name starts flaws = flat_map (λ (p : Start × Option (List ℕ)). flaw_report name p.0 p.1) (zip starts flaws)
 
--- what is reported of the items of a part, if one has no widths
-abbrev pub rows_report : List ℕ → List Start → List Row → Option (List ℕ)
-rows_report name starts rows = if any_flawed rows then Some (flaw_reports name starts (map flaw_lines rows)) else None
+-- the same, if there is one
+abbrev pub report_if : Bool → List ℕ → List Start → List (Option (List ℕ)) → Option (List ℕ)
+report_if any name starts flaws = if any then Some (flaw_reports name starts flaws) else None
 
+-- what is reported of the items of a part, if one has no widths
 abbrev pub part_report : List ℕ → Rowed → Option (List ℕ)
-part_report name p = rows_report name p.outcome.starts p.rows
+part_report name p = report_if (any_flawed p.rows) name p.outcome.starts (map flaw_lines p.rows)
 
 abbrev pub text_or_none : Option (List ℕ) → List ℕ
 text_or_none None = []

@@ -1,6 +1,6 @@
 -- Definitions. What became of a stream whose items are written with their widths.
 use Rattle.std.specs.Prelude.{◌≡◌, ◌⊎◌, ℕ, Bool, true, false, ◌||◌, List, [], Option, None, Result, Ok, Err}
-use Rattle.souper_format.specs.Streams.{Stream}
+use Rattle.souper_watched.specs.Streams.{Stream}
 use Rattle.souper_typed.specs.declared.form.Form.{Form}
 use Rattle.souper_records.specs.declared.stop.Stop.{Stop}
 use Rattle.souper_records.specs.Stops.{UnlessOutput}

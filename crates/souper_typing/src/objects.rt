@@ -1,47 +1,51 @@
 //! A JSON object for each item of a stream, with its widths, and for each error.
 ghost use Rattle.std.specs.Prelude.{◌≡◌, ◌++◌, true, Option, IfOk, OnOk, option_map, string_bytes};
+ghost use Rattle.std.specs.List.{AllZip, list_any};
 ghost use Rattle.serde_json.specs.View.{view};
-ghost use Rattle.souper_format.specs.Streams.{stream};
-ghost use Rattle.souper_format.specs.Watching.{has_failed};
+ghost use Rattle.souper_watched.specs.Streams.{stream};
+ghost use Rattle.souper_watched.specs.Watching.{has_failed};
 ghost use Rattle.souper_untyped.specs.Says.{view_flaw_text};
-ghost use Rattle.souper_records.specs.Objects.{optional_number, optional_string};
+ghost use Rattle.souper_records.specs.Objects.{optional_string};
 ghost use Rattle.souper_records.specs.Outcomes.{input_stream};
-ghost use Rattle.souper_typing.specs.Objects.{widths_data, typed_object, flaw_object, row_object, view_row, row_record, row_line, IsObjectRow, is_flawed_row, ObjectsHold, ObjectsWrote, IsTypedObjectsResult};
+ghost use Rattle.souper_typing.specs.Objects.{widths_data, typed_object, flaw_object, row_object, view_row, row_record, row_line, objects_of, IsRowOf, is_flawed_row, ObjectsWrote, IsTypedObjectsResult};
 
-use crate::layout::TypedLayout;
 use serde_json::{Value, json};
-use souper_format::watched::Watched;
 use souper_ir::ast::{Arena, Statement};
 use souper_ir::parse::{Sink, WholeItem};
 use souper_records::layout::Layout;
-use souper_records::objects::append_line;
+use souper_records::objects::{append_line, number};
 use souper_records::options::ReadOptions;
-use souper_records::output::{Output, Shown, part_text};
+use souper_records::output::{Output, Shown};
 use souper_records::parts::{Part, PartSink, Source, write_parts};
 use souper_records::records::{append_last_text, append_record_of_text, key_of};
 use souper_records::rejected::Rejected;
-use souper_records::stop::{Stop, write_text};
+use souper_records::rows::{RowSink, Rows};
+use souper_records::stop::Stop;
 use souper_stream::{ChunkSink, Start, StreamItem};
 use souper_typed::{Form, TypedItem, write_widths};
 use souper_untyped::FlawText;
+use souper_watched::Watched;
 use souper_widths::WidthsError;
 use std::alloc::{AllocError, Global};
 use std::io::{BufRead, Write};
 
-// What is kept of an item: its text with its widths written, and the widths of its statements; or what is said of its flaw.
+/// The row of an item: its text with its widths written, and the widths of its statements; or what is said of its flaw.
 #[derive(Drop)]
-enum Row {
+pub enum TypedRow {
+    /// The item has widths: of each statement that of its result, 0 for none.
     Typed { text: String, widths: Vec<u32> },
+
+    /// It has none.
     Flawed(FlawText),
 }
 
-impl Row {
+impl TypedRow {
     fn is_flawed(&self) -> bool
-        ensures { result ≡ is_flawed_row (view_row self.now) }
+        ensures { result ≡ is_flawed_row self.now }
     {
         match self {
-            Row::Typed { .. } => false,
-            Row::Flawed(_) => true,
+            TypedRow::Typed { .. } => false,
+            TypedRow::Flawed(_) => true,
         }
     }
 }
@@ -54,16 +58,6 @@ fn widths_value(alloc: Global, widths: &[u32]) -> Result<Value, AllocError>
         items.push(Value::from(*width))?;
     }
     Ok(Value::Array(items))
-}
-
-// A number that may be missing.
-fn number(n: Option<usize>) -> Value
-    ensures { view result ≡ optional_number n }
-{
-    match n {
-        Some(n) => Value::from(n),
-        None => Value::Null,
-    }
 }
 
 // A text that may be missing.
@@ -121,16 +115,16 @@ fn flaw_object(
 }
 
 // The object of the row of an item that begins at `start`.
-fn row_object(alloc: Global, name: &str, start: Start, row: &Row) -> Result<Value, AllocError>
+fn row_object(alloc: Global, name: &str, start: Start, row: &TypedRow) -> Result<Value, AllocError>
     ensures { IfOk result (λ value. view value ≡ row_object name.now start (view_row row.now)) }
 {
     match row {
-        Row::Typed { text, widths } => typed_object(alloc, name, start, text, widths),
-        Row::Flawed(flaw) => flaw_object(alloc, name, start, flaw),
+        TypedRow::Typed { text, widths } => typed_object(alloc, name, start, text, widths),
+        TypedRow::Flawed(flaw) => flaw_object(alloc, name, start, flaw),
     }
 }
 
-impl Shown for Row {
+impl Shown for TypedRow {
     ghost as_records = { λ layout row. row_record layout (view_row row) };
 
     ghost as_lines = { λ name row. row_line name (row.0, view_row row.1) };
@@ -142,8 +136,13 @@ impl Shown for Row {
         out: &mut String,
     ) -> Result<(), AllocError> {
         match self {
-            Row::Typed { text, .. } => append_record_of_text(alloc, layout, text.as_str(), out),
-            Row::Flawed(_) => Ok(()),
+            TypedRow::Typed { text, .. } => append_record_of_text(
+                alloc,
+                layout,
+                text.as_str(),
+                out,
+            ),
+            TypedRow::Flawed(_) => Ok(()),
         }
     }
 
@@ -159,128 +158,113 @@ impl Shown for Row {
     }
 }
 
-// The row of an item that is dropped then. `text` is for its text.
-fn row_of<T: TypedItem + Drop>(
-    alloc: Global,
-    form: Form,
-    rename: bool,
-    item: &mut T,
-    text: &mut String,
-) -> Result<Row, AllocError>
-    ensures { IfOk result (λ row. IsObjectRow form rename (T.view item.old) (view_row row)) }
-{
-    match write_widths(item, form) {
-        Ok(widths) => {
-            text.clear();
-            append_last_text(rename, item, text)?;
-            Ok(Row::Typed {
-                text: String::from_str(alloc, text.as_str())?,
-                widths: widths.results,
-            })
+/// How objects of items with their widths are made.
+#[derive(Clone, Copy)]
+pub struct TypedObjects {
+    /// How much of the widths the texts have.
+    pub form: Form,
+
+    /// Whether the names in the texts are by the printed order.
+    pub rename: bool,
+}
+
+impl<T: WholeItem + TypedItem + Drop> Rows<T, TypedRow> for TypedObjects {
+    ghost output_of = { λ maker. objects_of maker };
+
+    ghost makes = { λ maker item row. IsRowOf maker item row };
+
+    fn output(&self) -> Output {
+        Output::Objects {
+            rename: self.rename,
         }
-        Err(WidthsError::Flawed(flaw)) => Ok(Row::Flawed(FlawText::new(alloc, item, flaw)?)),
-        // An item that was read is well formed, so the error is out of memory.
-        Err(_) => Err(AllocError),
+    }
+
+    fn make(&self, alloc: Global, item: &mut T, text: &mut String) -> Result<TypedRow, AllocError> {
+        match write_widths(item, self.form) {
+            Ok(widths) => {
+                text.clear();
+                append_last_text(self.rename, item, text)?;
+                Ok(TypedRow::Typed {
+                    text: String::from_str(alloc, text.as_str())?,
+                    widths: widths.results,
+                })
+            }
+            Err(WidthsError::Flawed(flaw)) => {
+                Ok(TypedRow::Flawed(FlawText::new(alloc, item, flaw)?))
+            }
+            // The item is well formed, so the error is out of memory.
+            Err(_) => Err(AllocError),
+        }
     }
 }
 
-// The rows of the items of a part.
+fn any_flawed(rows: &[TypedRow]) -> bool
+    ensures { result ≡ list_any is_flawed_row rows.now }
+{
+    let mut any = false;
+    for row in rows {
+        any |= row.is_flawed();
+    }
+    any
+}
+
+// The rows of the items of a part, and whether an item of the parts before has no widths.
 #[derive(Drop)]
 struct Objects {
-    alloc: Global,
-    form: Form,
-
-    // Whether the texts have names by the printed order.
-    rename: bool,
-
-    // For the text of one item.
-    text: String,
-    rows: Vec<Row>,
-
-    // Whether an item of the part has no widths.
-    any: bool,
-
-    // Whether one of the parts before has.
+    rows: RowSink<TypedObjects, TypedRow>,
     untyped: bool,
 }
 
 impl<T: WholeItem + TypedItem + Drop> Sink<T> for Objects {
-    ghost holds = { λ first objects items. ObjectsHold first objects items };
+    ghost holds = { λ first objects items. (objects.untyped ≡ first.untyped) × (objects.rows.maker ≡ first.rows.maker) × AllZip (IsRowOf first.rows.maker) items objects.rows.rows.items };
 
-    fn take(&mut self, item: T) -> Result<(), AllocError> {
-        Sink::<T>::take_over(self, item)?;
-        Ok(())
-    }
-
-    fn take_over(&mut self, mut item: T) -> Result<Option<Arena<Statement>>, AllocError> {
-        let row = row_of(
-            self.alloc,
-            self.form,
-            self.rename,
-            &mut item,
-            &mut self.text,
-        )?;
-        self.any |= row.is_flawed();
-        self.rows.push(row)?;
-        Ok(item.take_statements())
+    fn take(&mut self, item: T) -> Result<Option<Arena<Statement>>, AllocError> {
+        Sink::<T>::take(&mut self.rows, item)
     }
 }
 
 impl<T: WholeItem + TypedItem + Drop> ChunkSink<T> for Objects {
     fn rollback(&mut self) {
-        self.rows.clear();
-        self.any = false;
+        ChunkSink::<T>::rollback(&mut self.rows);
     }
 }
 
-// Writes the objects of each part, and drops the rows.
 impl<T: StreamItem + TypedItem + Drop> PartSink<T> for Objects {
     ghost wrote = { λ name a x b y os. ObjectsWrote name a x b y os };
 
     fn write_part<W: Write>(
         &mut self,
-        alloc: Global,
         part: Part<'_>,
         refusal: Option<Rejected<'_>>,
         out: &mut Watched<W>,
     ) -> Result<(), Stop> {
-        let output = Output::Objects {
-            rename: self.rename,
-        };
-        let lines = part_text(alloc, output, part, refusal, &self.rows)?;
-        write_text(&lines, out)?;
-        self.rows.clear();
-        self.untyped |= self.any;
-        self.any = false;
+        let flawed = any_flawed(self.rows.rows.as_slice());
+        PartSink::<T>::write_part(&mut self.rows, part, refusal, out)?;
+        self.untyped |= flawed;
         Ok(())
     }
 }
 
 /// Writes a JSON object for each item of the stream and each parse error, in order, as
-/// [`write_objects`](souper_records::objects::write_objects) does, and fails like it. Returns whether there was an error.
+/// [`write_rows`](souper_records::rows::write_rows) does, and fails like it. Returns whether there was an error.
 ///
-/// The text of an item has its widths written, in the form of the layout and with its names. Its object has `widths` besides: that of each statement's result, 0 for none. An item
+/// The text of an item has its widths written. Its object has `widths` besides: that of each statement's result, 0 for none. An item
 /// without widths has an object like that of a parse error, at its first token, with the line of the `statement` that has the flaw as
 /// `source`, and its number; null at a last line.
 pub fn write_typed_objects<T: StreamItem + TypedItem + Drop, R: BufRead, W: Write, E: Write>(
     alloc: Global,
-    layout: TypedLayout,
+    maker: TypedObjects,
     options: ReadOptions<'_>,
     reader: &mut R,
     out: &mut Watched<W>,
     err: &mut Watched<E>,
 ) -> Result<bool, Stop>
-    ensures returned { IsTypedObjectsResult layout.form layout.layout.rename (input_stream T.item_type options.entry (R.remaining reader.old)) (R.remaining reader.new)
+    ensures returned { IsTypedObjectsResult maker (input_stream T.item_type options.entry (R.remaining reader.old)) (R.remaining reader.new)
         (stream W.contents out.old out.new) (stream E.contents err.old err.new) result }
     ensures stays { has_failed err.old ≡ true → has_failed err.new ≡ true }
 {
     let mut objects = Objects {
-        alloc,
-        form: layout.form,
-        rename: layout.layout.rename,
-        text: String::new(alloc),
-        rows: Vec::new(alloc),
-        any: false,
+        rows: RowSink::new(alloc, maker),
         untyped: false,
     };
     let source = Source::with_starts(alloc, options);

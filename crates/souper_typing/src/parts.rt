@@ -1,19 +1,19 @@
 //! The parts of a stream whose items are written with their widths.
 ghost use Rattle.std.specs.Prelude.{◌≡◌, ◌++◌, ℕ, List, [], true, Option};
-ghost use Rattle.souper_format.specs.Streams.{stream};
-ghost use Rattle.souper_format.specs.Watching.{watched_inner, has_failed};
+ghost use Rattle.souper_watched.specs.Streams.{stream};
+ghost use Rattle.souper_watched.specs.Watching.{watched_inner, has_failed};
 ghost use Rattle.souper_records.specs.Outcomes.{Outcome, input_stream};
 ghost use Rattle.souper_typing.specs.Widened.{WidenedHolds};
 ghost use Rattle.souper_typing.specs.Results.{IsTypingResult};
 
 use crate::reports::write_report;
 use crate::widened::Widened;
-use souper_format::watched::Watched;
 use souper_records::options::ReadOptions;
 use souper_records::parts::{PartSink, Source, write_next};
 use souper_records::stop::{ReadFault, Stop};
 use souper_stream::StreamItem;
 use souper_typed::TypedItem;
+use souper_watched::Watched;
 use std::alloc::Global;
 use std::io;
 use std::io::{BufRead, ErrorKind, Write};

@@ -1,12 +1,12 @@
 //! The lines that report items without widths.
 ghost use Rattle.std.specs.Prelude.{◌≡◌, ◌++◌, true, map, Option, IfOk, OnOk, option_map, string_bytes};
-ghost use Rattle.souper_format.specs.Streams.{stream};
-ghost use Rattle.souper_format.specs.Watching.{has_failed};
-ghost use Rattle.souper_typing.specs.Parts.{flaw_report, flaw_reports, ReportedText};
+ghost use Rattle.souper_watched.specs.Streams.{stream};
+ghost use Rattle.souper_watched.specs.Watching.{has_failed};
+ghost use Rattle.souper_typing.specs.Parts.{flaw_report, flaw_reports, report_if, ReportedText};
 
-use souper_format::watched::Watched;
 use souper_records::parts::Part;
 use souper_stream::Start;
+use souper_watched::Watched;
 use std::alloc::{AllocError, Global};
 use std::io::Write;
 
@@ -30,12 +30,8 @@ fn append_report(
     }
 }
 
-/// The lines of the errors of a part, of whose items these have none or the lines.
-pub(crate) fn reports_of(
-    alloc: Global,
-    part: Part<'_>,
-    flaws: &[Option<String>],
-) -> Result<String, AllocError>
+// The lines of the errors of a part, of whose items these have none or the lines.
+fn reports_of(alloc: Global, part: Part<'_>, flaws: &[Option<String>]) -> Result<String, AllocError>
     ensures { IfOk result (λ out. string_bytes out ≡ flaw_reports part.entry.name.now part.entry.starts.now (map (option_map string_bytes) flaws.now)) }
 {
     let mut out = String::new(alloc);
@@ -43,6 +39,22 @@ pub(crate) fn reports_of(
         append_report(alloc, part.name, *start, flaw, &mut out)?;
     }
     Ok(out)
+}
+
+/// The same, if an item has an error.
+pub(crate) fn report_of(
+    alloc: Global,
+    any: bool,
+    part: Part<'_>,
+    flaws: &[Option<String>],
+) -> Result<Option<String>, AllocError>
+    ensures { IfOk result (λ report. option_map string_bytes report ≡ report_if any part.entry.name.now part.entry.starts.now (map (option_map string_bytes) flaws.now)) }
+{
+    if any {
+        Ok(Some(reports_of(alloc, part, flaws)?))
+    } else {
+        Ok(None)
+    }
 }
 
 /// Writes the report, if there is one.

@@ -1,7 +1,7 @@
 //! Runs over one stream, by their statuses.
 ghost use Rattle.std.specs.Prelude.{List};
 ghost use Rattle.souper_graph.specs.Values.{Item};
-ghost use Rattle.souper_format.specs.Streams.{stream};
+ghost use Rattle.souper_watched.specs.Streams.{stream};
 ghost use Rattle.souper_records.specs.Outcomes.{input_stream};
 ghost use Rattle.souper_records.specs.Uniques.{HasSeen};
 ghost use Rattle.souper_typing.specs.Runs.{IsTypedRun, IsTypedUniqRun};
@@ -9,7 +9,6 @@ ghost use Rattle.souper_typing.specs.Runs.{IsTypedRun, IsTypedUniqRun};
 use crate::layout::TypedLayout;
 use crate::parts::write_typed;
 use crate::widened::Widened;
-use souper_format::watched::Watched;
 use souper_records::each::Records;
 use souper_records::options::ReadOptions;
 use souper_records::run::end_parts;
@@ -17,6 +16,7 @@ use souper_records::seen::Seen;
 use souper_records::uniq::Distinct;
 use souper_stream::StreamItem;
 use souper_typed::TypedItem;
+use souper_watched::Watched;
 use std::alloc::Global;
 use std::io::{BufRead, Write};
 use std::mem;

@@ -2,8 +2,7 @@
 ghost use Rattle.std.specs.Prelude.{◌≡◌, [], false, option_map, string_bytes};
 ghost use Rattle.souper_typing.specs.Widened.{WidenedHolds, WidenedWrote};
 
-use crate::reports::reports_of;
-use souper_format::watched::Watched;
+use crate::reports::report_of;
 use souper_ir::ast::{Arena, Statement};
 use souper_ir::parse::{Sink, WholeItem};
 use souper_records::parts::{Part, PartSink};
@@ -12,6 +11,7 @@ use souper_records::stop::Stop;
 use souper_stream::{ChunkSink, StreamItem};
 use souper_typed::{Form, TypedItem, write_widths};
 use souper_untyped::FlawText;
+use souper_watched::Watched;
 use souper_widths::WidthsError;
 use std::alloc::{AllocError, Global};
 use std::io::Write;
@@ -62,19 +62,14 @@ impl<S> Widened<S> {
 impl<T: WholeItem + TypedItem + Drop, S: Sink<T>> Sink<T> for Widened<S> {
     ghost holds = { λ first widened items. WidenedHolds S.holds first widened items };
 
-    fn take(&mut self, item: T) -> Result<(), AllocError> {
-        Sink::<T>::take_over(self, item)?;
-        Ok(())
-    }
-
-    fn take_over(&mut self, mut item: T) -> Result<Option<Arena<Statement>>, AllocError> {
+    fn take(&mut self, mut item: T) -> Result<Option<Arena<Statement>>, AllocError> {
         if self.any && !self.recover {
             return Ok(item.take_statements());
         }
         match write_widths(&mut item, self.form) {
             Ok(_) => {
                 self.flaws.push(None)?;
-                Sink::<T>::take_over(&mut self.inner, item)
+                Sink::<T>::take(&mut self.inner, item)
             }
             Err(WidthsError::Flawed(flaw)) => {
                 let text = FlawText::new(self.alloc, &item, flaw)?;
@@ -104,17 +99,12 @@ impl<T: StreamItem + TypedItem + Drop, S: PartSink<T>> PartSink<T> for Widened<S
 
     fn write_part<W: Write>(
         &mut self,
-        alloc: Global,
         part: Part<'_>,
         refusal: Option<Rejected<'_>>,
         out: &mut Watched<W>,
     ) -> Result<(), Stop> {
-        let report = if self.any {
-            Some(reports_of(alloc, part, &self.flaws)?)
-        } else {
-            None
-        };
-        PartSink::<T>::write_part(&mut self.inner, alloc, part, refusal, out)?;
+        let report = report_of(self.alloc, self.any, part, self.flaws.as_slice())?;
+        PartSink::<T>::write_part(&mut self.inner, part, refusal, out)?;
         self.report = report;
         self.flaws.clear();
         self.any = false;

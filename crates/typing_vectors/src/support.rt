@@ -1,13 +1,13 @@
 //! What a run writes, and its status.
-use souper_format::watched::Watched;
 use souper_ir::ast::LeftHandSide;
 use souper_records::layout::{Layout, PLAIN};
 use souper_records::options::ReadOptions;
 use souper_records::seen::Seen;
 use souper_typed::Form;
 use souper_typing::layout::TypedLayout;
-use souper_typing::objects::write_typed_objects;
+use souper_typing::objects::{TypedObjects, write_typed_objects};
 use souper_typing::run::{typed_run, typed_uniq_run};
+use souper_watched::Watched;
 use std::alloc::Global;
 use std::process::Abort;
 
@@ -88,7 +88,10 @@ impl Run {
         let (mut out, mut err) = (Watched::new(&mut self.out), Watched::new(&mut self.err));
         write_typed_objects::<LeftHandSide, &[u8], &mut Vec<u8>, &mut Vec<u8>>(
             self.alloc,
-            layout(form),
+            TypedObjects {
+                form,
+                rename: false,
+            },
             options(true),
             &mut reader,
             &mut out,

@@ -1,8 +1,8 @@
 use Rattle.std.proofs.Common.{◌≡◌, ◌||◌, Bool, true, false, List, [], ◌∷◌, refl, sym, ap, ◌∙◌, subst}
 use Rattle.std.proofs.KnownBytes.{Keeps-refl}
 use Rattle.std.specs.Prelude.{Option, None}
-use Rattle.souper_format.specs.Watching.{watched_inner, has_failed}
-use Rattle.souper_format.specs.Streams.{stream}
+use Rattle.souper_watched.specs.Watching.{watched_inner, has_failed}
+use Rattle.souper_watched.specs.Streams.{stream}
 use Rattle.souper_records.specs.declared.stop.Stop.TheVariants.{Input}
 use Rattle.souper_records.specs.declared.stop.ReadFault.TheVariants.{Io}
 use Rattle.souper_records.specs.Outcomes.{Outcome, input_stream}

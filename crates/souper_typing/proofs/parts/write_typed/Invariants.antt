@@ -1,7 +1,7 @@
 -- The parts that were read, their output, and the reports.
 use Rattle.std.proofs.Common.{◌≡◌, ◌||◌, Bool, true, false, []}
-use Rattle.souper_format.specs.Streams.{stream}
-use Rattle.souper_format.specs.Watching.{watched_inner, has_failed}
+use Rattle.souper_watched.specs.Streams.{stream}
+use Rattle.souper_watched.specs.Watching.{watched_inner, has_failed}
 use Rattle.souper_stream.specs.Parts.{keeps_starts}
 use Rattle.souper_records.specs.Outcomes.{input_stream}
 use Rattle.souper_records.proofs.Outcomes.{Reached}

@@ -1,7 +1,7 @@
 use Rattle.std.proofs.Common.{◌++◌, [], refl, ◌∙◌}
 use Rattle.std.proofs.KnownBytes.{Appends-kept}
 use Rattle.std.proofs.lemmas.Grind.{flat_map-append}
-use Rattle.souper_format.specs.Streams.{stream}
+use Rattle.souper_watched.specs.Streams.{stream}
 use Rattle.souper_records.specs.Outcomes.{items_of}
 use Rattle.souper_records.proofs.Seeing.{keeps_none, keeps_join, distinct_records}
 use Rattle.souper_typing.proofs.Holding.{held_none}

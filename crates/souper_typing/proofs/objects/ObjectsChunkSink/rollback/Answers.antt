@@ -1,8 +1,4 @@
-use Rattle.std.proofs.Common.{refl, sym, ap}
-use Rattle.std.specs.List.{AllZip, list_any}
-use Rattle.souper_typing.specs.Objects.{view_row, is_flawed_row, IsObjectRow}
-use Rattle.souper_typing.proofs.ObjectParts.{no_object_rows}
 use Rattle.souper_typing.proofs.objects.ObjectsChunkSink.rollback.Goals as goal
 
 pub returns : goal.returns
-returns g c = λ first items held. no_object_rows first _ held.form held.rename held.untyped refl c.clear.ensures.items
+returns g c = λ first items held. (let m = c.rollback.ensures first.rows items (held.1, held.2) in (held.0, m.0, m.1))

@@ -3,8 +3,8 @@ use Rattle.std.proofs.lemmas.Result.{on_ok_weaker}
 use Rattle.souper_graph.specs.Values.{Item}
 use Rattle.souper_untyped.specs.Says.{says_of, lines_of}
 use Rattle.souper_typing.proofs.Holding.{held_skipped, held_typed, held_flawed}
-use Rattle.souper_typing.proofs.widened.WidenedSink.take_over.Goals as goal
-use Rattle.souper_typing.proofs.widened.WidenedSink.take_over.Goals.{else-self-via-then-self+else-not-self, else-self-via-else-self}
+use Rattle.souper_typing.proofs.widened.WidenedSink.take.Goals as goal
+use Rattle.souper_typing.proofs.widened.WidenedSink.take.Goals.{else-self-via-then-self+else-not-self, else-self-via-else-self}
 
 pub returns-then-not-self : goal.returns-then-not-self
 returns-then-not-self g c = λ first items held. held_skipped g.S.Sink.holds first c.args.self.now items (g.T.Item.view c.args.item) c.if-self.true c.if-not-self.true held
@@ -12,7 +12,7 @@ returns-then-not-self g c = λ first items held. held_skipped g.S.Sink.holds fir
 pub returns-in-Ok : goal.returns-in-Ok
 returns-in-Ok g c =
     let goes : (c.args.self.now.any ≡ false) ⊎ (c.args.self.now.recover ≡ true) = elim c.else-self.branch [ else-self-via-then-self+else-not-self w ↦ inr w.if-not-self.false | else-self-via-else-self w ↦ inl w.if-self.false ] in
-    on_ok_weaker c.take_over.result (λ more first items held. held_typed g.S.Sink.holds first c.args.self.now _ items (g.T.Item.view c.args.item) (g.T.Item.view c.write_widths.new.item) goes refl refl refl c.in_ok-push.ensures.items (_, c.in-Ok.ensures.written) (λ list h. more first.inner list h) held) c.take_over.ensures
+    on_ok_weaker c.take.result (λ more first items held. held_typed g.S.Sink.holds first c.args.self.now _ items (g.T.Item.view c.args.item) (g.T.Item.view c.write_widths.new.item) goes refl refl refl c.in_ok-push.ensures.items (_, c.in-Ok.ensures.written) (λ list h. more first.inner list h) held) c.take.ensures
 
 pub returns : goal.returns
 returns g c =
