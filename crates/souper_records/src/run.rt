@@ -123,7 +123,7 @@ pub fn uniq_run_with<T: StreamItem + Drop, R: BufRead, W: Write, E: Write>(
     let mut distinct = Distinct::new(layout, mem::replace(seen, Seen::new(alloc)));
     let source = Source::new(alloc, options);
     let parts = write_parts::<T, Distinct, R, W, E>(alloc, source, &mut distinct, reader, out, err);
-    *seen = distinct.into_seen();
+    *seen = distinct.seen;
     end_parts(alloc, name, parts, out, err)
 }
 

@@ -27,7 +27,9 @@ pub struct Distinct {
     // For the text of one item.
     text: String,
     texts: Vec<String>,
-    seen: Seen,
+
+    /// The items of the parts that were written.
+    pub seen: Seen,
 }
 
 impl Distinct {
@@ -44,13 +46,6 @@ impl Distinct {
             texts: Vec::new(alloc),
             seen,
         }
-    }
-
-    /// The items that were seen.
-    pub fn into_seen(self) -> Seen
-        ensures { result ≡ self.seen }
-    {
-        self.seen
     }
 }
 

@@ -67,6 +67,6 @@ pub fn typed_uniq_run<T: StreamItem + TypedItem + Drop, R: BufRead, W: Write, E:
     let distinct = Distinct::new(layout.layout, mem::replace(seen, Seen::new(alloc)));
     let mut sink = Widened::new(alloc, layout.form, options.recover, distinct);
     let parts = write_typed::<T, Distinct, R, W, E>(alloc, options, &mut sink, reader, out, err);
-    *seen = sink.inner.into_seen();
+    *seen = sink.inner.seen;
     end_parts(alloc, name, parts, out, err)
 }

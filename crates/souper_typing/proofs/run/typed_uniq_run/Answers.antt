@@ -21,7 +21,7 @@ pub returns : goal.returns
 returns g c = λ earlier had.
     let k = g.T.Item.item_type in
     let out = stream g.W.Write.contents c.args.out.now c.end_parts.new.out in
-    let records = distinct_records k c.args.layout.layout out c.args.seen.now c.into_seen.result earlier in
+    let records = distinct_records k c.args.layout.layout out c.args.seen.now in
     typing_ends g.W.Write.contents g.E.Write.contents c.args.out.now c.write_typed-parts.new.out c.end_parts.new.out c.end_parts.ensures.out_stays c.args.err.now c.write_typed-parts.new.err c.end_parts.new.err c.end_parts.ensures.stays
-    _ _ _ _ _ _ _ (λ kept os w. records (items_of os) had (λ e h. (let m = w.1 e h in (m.0, Appends-kept _ _ _ _ m.1 kept)))) (λ kept os w. (records (items_of os) had (λ e h. (let m = w.1.1 e h in (m.0, Appends-kept _ _ _ _ m.1 kept)))).0) c.write_typed-parts.result c.end_parts.result
+    _ _ _ _ _ _ _ (λ kept os w. records c.write_typed-parts.new.sink.inner.seen earlier (items_of os) had (λ e h. (let m = w.1 e h in (m.0, Appends-kept _ _ _ _ m.1 kept)))) (λ kept os w. (records w.0.seen earlier (items_of os) had (λ e h. (let m = w.1.1 e h in (m.0, Appends-kept _ _ _ _ m.1 kept)))).0) c.write_typed-parts.result c.end_parts.result
     (rw (c.new-sink.ensures.form, c.new-sink.ensures.inner, c.new-distinct.ensures.layout, c.new-distinct.ensures.seen, c.replace.ensures.value) at c.write_typed-parts.ensures.returned) c.end_parts.ensures.end
