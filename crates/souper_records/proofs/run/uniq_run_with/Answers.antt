@@ -7,7 +7,7 @@ use Rattle.souper_records.proofs.Outcomes.{run_ends}
 use Rattle.souper_records.proofs.run.uniq_run_with.Goals as goal
 
 pub write_parts-parts-requires-clause-started : goal.write_parts-parts-requires-clause-started
-write_parts-parts-requires-clause-started g c = (refl, keeps_none g.T.Item.item_type _ _ _)
+write_parts-parts-requires-clause-started g c = (refl, keeps_none g.T.Item.item_type c.new-distinct.result.layout _ c.new-distinct.result.seen)
 
 pub write_parts-parts-requires-clause-none : goal.write_parts-parts-requires-clause-none
 write_parts-parts-requires-clause-none g c = (refl, refl, rw c.new-distinct.ensures.texts refl, tt)

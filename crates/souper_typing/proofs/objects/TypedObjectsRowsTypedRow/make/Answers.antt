@@ -3,7 +3,7 @@ use Rattle.souper_graph.specs.Values.{Item}
 use Rattle.souper_widths.specs.View.{view_widths}
 use Rattle.souper_untyped.specs.Says.{says_of}
 use Rattle.souper_records.specs.Uniques.{text_by}
-use Rattle.souper_typing.proofs.objects.TypedObjectsRows.make.Goals as goal
+use Rattle.souper_typing.proofs.objects.TypedObjectsRowsTypedRow.make.Goals as goal
 
 pub append_last_text-requires : goal.append_last_text-requires
 append_last_text-requires g c = c.in-Ok.ensures.written.well_formed
