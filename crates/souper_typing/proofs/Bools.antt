@@ -1,5 +1,5 @@
 -- Tests of two parts.
-use Rattle.std.proofs.Common.{◌≡◌, ◌||◌, Bool, true, false, Option, Some, None, is_some, if◌then◌else◌, refl}
+use Rattle.std.proofs.Common.{◌≡◌, ◌||◌, Bool, true, false, Option, Some, None, is_some, if◌then◌else◌, refl, sym, ◌∙◌}
 
 pub or_none : (a b : Bool) → (a || b) ≡ false → (a ≡ false) × (b ≡ false)
 or_none true b e = absurd cc
@@ -27,3 +27,6 @@ or_swap true b c d = refl
 or_swap false true true d = refl
 or_swap false true false d = refl
 or_swap false false c d = refl
+
+pub clash : {A : Type 0} {b : Bool} → b ≡ true → b ≡ false → A
+clash t f = let bad : true ≡ false = sym t ∙ f in absurd cc

@@ -17,7 +17,7 @@ use Rattle.souper_records.specs.Stops.{UnlessOutput}
 use Rattle.souper_records.specs.Reports.{IsMemoryLine, IsFaultLine, IsReadFaultLine}
 use Rattle.souper_records.specs.Runs.{output_name, EndsWithFault, IsPartsEnd}
 use Rattle.souper_records.specs.Outcomes.{InputStream, Outcome, any_refused, parts_of, HaveItemStarts, WritesPart, WritesParts, EndsRefused, IsBegun}
-use Rattle.souper_records.proofs.Outcomes.{Reached, reached_more, reached_refusal, reached_end, stopped_after, parts_mapped}
+use Rattle.souper_records.proofs.Outcomes.{Reached, reached_more, reached_refusal, reached_end, stopped_after, parts_mapped, known_mapped}
 use Rattle.souper_typing.specs.Parts.{Rowed, outcomes_of, typed_outcomes, AreTaken, any_untyped, is_bad, ArePartLines, ReportedParts}
 use Rattle.souper_typing.specs.Results.{unsaid, TypesOutcomes, TypesParts, StopsTyping, IsTypingResult}
 use Rattle.souper_typing.specs.Runs.{ReportedPartsThen, IsTypingRun}
@@ -33,13 +33,20 @@ typed_end i f mid after written err refused untyped p r quiet all =
     inl (refused, untyped, refl, parts_mapped (λ os w. (w.0, w.1 refl)) (λ es h. h) (reached_end r (λ stops. (or_none refused untyped (quiet stops)).0) all))
 
 -- reading or writing has stopped
-pub typed_stop : (i : InputStream) (f : Form) (mid : Option (List ℕ)) (written known : List Outcome → Type 0) (err : Stream) (refused untyped failed : Bool) (p : ItemReader) (stop : Stop) → Reached i mid true (TypesOutcomes i f written err untyped) unsaid refused p → (i.recover ≡ false → (refused || untyped) ≡ false)
+typed_stop : (i : InputStream) (f : Form) (mid : Option (List ℕ)) (written known : List Outcome → Type 0) (err : Stream) (refused untyped failed : Bool) (p : ItemReader) (stop : Stop) → Reached i mid true (TypesOutcomes i f written err untyped) unsaid refused p → (i.recover ≡ false → (refused || untyped) ≡ false)
     → ((os : List Outcome) → written os → UnlessOutput stop failed (known os)) → StopsTyping i f known failed err stop
 typed_stop i f mid written known err refused untyped failed p stop r quiet unless =
     let K : List Outcome → Type 0 = λ os. (parts : List Rowed) × (outcomes_of parts ≡ os) × AreTaken i.recover f parts × ReportedParts i.name err parts × UnlessOutput stop failed (known (typed_outcomes parts)) in
     let t = r.written in
     let (os, begun, none, reported, k) = stopped_after r (λ stops. (or_none refused untyped (quiet stops)).0) K false Memory (t.parts, t.are, t.taken, t.reported, unless (typed_outcomes t.parts) t.are_written) in
     (os, begun, k)
+
+-- the same, given what the sink had written, and that nothing was written since unless the output is the cause
+pub typed_stopped : {S W : Type 0} (i : InputStream) (f : Form) (mid : Option (List ℕ)) (err : Stream) (refused untyped failed : Bool) (p : ItemReader) (stop : Stop) (wrote : S → W → List Outcome → Type 0) (s : S) (old new : W)
+    → Reached i mid true (TypesOutcomes i f (wrote s old) err untyped) unsaid refused p → (i.recover ≡ false → (refused || untyped) ≡ false) → UnlessOutput stop failed (new ≡ old) → StopsTyping i f (λ os. (t : S) × wrote t new os) failed err stop
+typed_stopped {S} {W} i f mid err refused untyped failed p stop wrote s old new r quiet unless =
+    typed_stop i f mid (wrote s old) (λ os. (t : S) × wrote t new os) err refused untyped failed p stop r quiet
+    (λ os h. known_mapped stop failed (new ≡ old) ((t : S) × wrote t new os) (λ same. (s, subst (λ (w : W). wrote s w os) (sym same) h)) unless)
 
 -- one part more
 module _ {S E : Type 0} (i : InputStream) (f : Form) (mid after : Option (List ℕ)) (wrote : List ℕ → S → Option (List ℕ) → S → Option (List ℕ) → List Outcome → Type 0)

@@ -7,3 +7,4 @@ mod Floats
 mod Holding
 mod ObjectRows
 mod FlawReports
+mod Kept

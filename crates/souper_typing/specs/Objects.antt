@@ -22,7 +22,7 @@ use Rattle.souper_records.specs.declared.output.Output.TheVariants.{Objects}
 use Rattle.souper_records.specs.Distinct.{HoldsOfOne}
 use Rattle.souper_records.specs.Objects.{optional_number, optional_string, object_line}
 use Rattle.souper_records.specs.Outputs.{outcome_text, AreRowTexts, WritesRows}
-use Rattle.souper_records.specs.Outcomes.{InputStream, Outcome, items_of, WritesParts, StopsAfter}
+use Rattle.souper_records.specs.Outcomes.{InputStream, Outcome, items_of as items_of_parts, WritesParts, StopsAfter}
 use Rattle.souper_typing.specs.declared.objects.TypedRow.{TypedRow}
 use Rattle.souper_typing.specs.declared.objects.TypedRow.TheVariants.{Typed, Flawed}
 use Rattle.souper_typing.specs.declared.objects.TypedObjects.{TypedObjects}
@@ -101,11 +101,11 @@ pub record ObjectsWrote (name : List ℕ) (a : ObjectSink) (x : Option (List ℕ
   pub written : Appends x y text
   pub more : Bool
   pub untyped : b.untyped ≡ (a.untyped || more)
-  pub tells : TellsUntyped a.rows.maker.form more (items_of os)
+  pub tells : TellsUntyped a.rows.maker.form more (items_of_parts os)
 
 -- the objects of the items were written, and nothing else; the items begin where these say; and whether one has no widths
 abbrev pub WritesTypedObjects : TypedObjects → InputStream → Stream → Bool → List Outcome → Type 0
-WritesTypedObjects maker r out untyped os = WritesRows (IsRowOf maker) (rows_text maker r.name) r.kind out os × TellsUntyped maker.form untyped (items_of os)
+WritesTypedObjects maker r out untyped os = WritesRows (IsRowOf maker) (rows_text maker r.name) r.kind out os × TellsUntyped maker.form untyped (items_of_parts os)
 
 -- whether a part is rejected or an item has no widths; or why writing stopped
 abbrev pub IsTypedObjectsResult : TypedObjects → InputStream → Option (List ℕ) → Stream → Stream → Result Bool Stop → Type 0

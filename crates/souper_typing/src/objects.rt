@@ -268,13 +268,8 @@ pub fn write_typed_objects<T: StreamItem + TypedItem + Drop, R: BufRead, W: Writ
         untyped: false,
     };
     let source = Source::with_starts(alloc, options);
-    let refused = write_parts::<T, Objects, R, W, E>(
-        alloc,
-        source,
-        &mut objects,
-        reader,
-        out,
-        err,
-    )?;
-    Ok(refused | objects.untyped)
+    match write_parts::<T, Objects, R, W, E>(alloc, source, &mut objects, reader, out, err) {
+        Ok(refused) => Ok(refused | objects.untyped),
+        Err(stop) => Err(stop),
+    }
 }

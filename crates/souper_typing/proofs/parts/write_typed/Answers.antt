@@ -6,12 +6,11 @@ use Rattle.souper_watched.specs.Streams.{stream}
 use Rattle.souper_records.specs.declared.stop.Stop.TheVariants.{Input}
 use Rattle.souper_records.specs.declared.stop.ReadFault.TheVariants.{Io}
 use Rattle.souper_records.specs.Outcomes.{Outcome, input_stream}
-use Rattle.souper_records.proofs.Outcomes.{known_mapped}
 use Rattle.souper_typing.specs.Results.{TypesParts}
-use Rattle.souper_typing.proofs.Bools.{or_swap}
+use Rattle.souper_typing.proofs.Bools.{or_swap, clash}
 use Rattle.souper_typing.proofs.Reporting.{none_reported}
 use Rattle.souper_typing.proofs.Stepping.{begun, step_of, part_unsaid}
-use Rattle.souper_typing.proofs.Ends.{typed_end, typed_stop, typed_reached, typed_last}
+use Rattle.souper_typing.proofs.Ends.{typed_end, typed_stopped, typed_reached, typed_last}
 use Rattle.souper_typing.proofs.parts.write_typed.Goals as goal
 use Rattle.souper_typing.proofs.parts.write_typed.Goals.{else-bad-via-then-bad+else-not-options, else-bad-via-else-bad}
 
@@ -58,7 +57,7 @@ loop-turn-preserved g c =
     let first = begun g.S.PartSink.wrote name c.loop-turn.sink y (c.requires.begins c.loop-turn.sink.inner y) in
     let whole = e.part before _ r.had in
     let not_bad : c.args.options.recover ≡ false → (refused || untyped) ≡ false = elim c.else-bad.branch [
-      | else-bad-via-then-bad+else-not-options w ↦ (λ stops. (let bad = w.if-not-options.false in cc))
+      | else-bad-via-then-bad+else-not-options w ↦ (λ stops. clash w.if-not-options.false stops)
       | else-bad-via-else-bad w ↦ (λ stops. w.if-bad.false)
     ] in
     let v = whole.are_written c.loop-turn.sink y [] first in
@@ -110,9 +109,9 @@ pub returns-in-Err-clause-returned : goal.returns-in-Err-clause-returned
 returns-in-Err-clause-returned g c =
     let i = c.loop-turn.invariant in
     let e = c.in-Err.ensures in
-    rw e.stopped (typed_stop _ _ _ _ _ _ i.reached.0 i.reached.1 _ _ c.in-Err.stop i.reached.3 (λ stops. sym i.reached.2 ∙ i.quiet stops) (λ os h. known_mapped c.in-Err.stop _ _ _ (λ same. (c.loop-turn.sink.inner, rw same h)) e.unwritten))
+    rw e.stopped (typed_stopped _ _ _ _ i.reached.0 i.reached.1 _ _ c.in-Err.stop (λ s w os. g.S.PartSink.wrote c.args.options.name.now c.args.sink.now.inner (g.W.Write.contents (watched_inner c.args.out.now)) s (g.W.Write.contents (watched_inner w)) os) c.loop-turn.sink.inner c.loop-turn.out c.write_next.new.out i.reached.3 (λ stops. sym i.reached.2 ∙ i.quiet stops) e.unwritten)
 
 pub returns-clause-returned : goal.returns-clause-returned
 returns-clause-returned g c =
     let i = c.loop-turn.invariant in
-    typed_stop _ _ _ _ _ _ i.reached.0 i.reached.1 _ _ (Input (Io c.from-fault.result)) i.reached.3 (λ stops. sym i.reached.2 ∙ i.quiet stops) (λ os h. (c.loop-turn.sink.inner, h))
+    typed_stopped _ _ _ _ i.reached.0 i.reached.1 (has_failed c.loop-turn.out) _ (Input (Io c.from-fault.result)) (λ s w os. g.S.PartSink.wrote c.args.options.name.now c.args.sink.now.inner (g.W.Write.contents (watched_inner c.args.out.now)) s (g.W.Write.contents (watched_inner w)) os) c.loop-turn.sink.inner c.loop-turn.out c.loop-turn.out i.reached.3 (λ stops. sym i.reached.2 ∙ i.quiet stops) refl

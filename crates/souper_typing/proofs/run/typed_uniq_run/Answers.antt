@@ -1,10 +1,11 @@
 use Rattle.std.proofs.Common.{◌++◌, [], refl, ◌∙◌}
-use Rattle.std.proofs.KnownBytes.{Appends-kept}
 use Rattle.std.proofs.lemmas.Grind.{flat_map-append}
 use Rattle.souper_watched.specs.Streams.{stream}
 use Rattle.souper_records.specs.Outcomes.{items_of}
-use Rattle.souper_records.proofs.Seeing.{keeps_none, keeps_join, distinct_records}
+use Rattle.souper_records.proofs.Seeing.{keeps_none, keeps_join}
 use Rattle.souper_typing.proofs.Holding.{held_none}
+use Rattle.souper_watched.specs.Watching.{watched_inner}
+use Rattle.souper_typing.proofs.Kept.{WroteDistinct, KnownDistinct, distinct_kept, known_distinct}
 use Rattle.souper_typing.proofs.Ends.{typing_ends}
 use Rattle.souper_typing.proofs.run.typed_uniq_run.Goals as goal
 
@@ -21,7 +22,11 @@ pub returns : goal.returns
 returns g c = λ earlier had.
     let k = g.T.Item.item_type in
     let out = stream g.W.Write.contents c.args.out.now c.end_parts.new.out in
-    let records = distinct_records k c.args.layout.layout out c.args.seen.now in
+    let written = rw (c.new-sink.ensures.form, c.new-sink.ensures.inner, c.new-distinct.ensures.layout, c.new-distinct.ensures.seen, c.replace.ensures.value) at c.write_typed-parts.ensures.returned in
+    let l = c.args.layout.layout in
+    let x = g.W.Write.contents (watched_inner c.args.out.now) in
+    let y = g.W.Write.contents (watched_inner c.write_typed-parts.new.out) in
+    let s = c.write_typed-parts.new.sink.inner in
     typing_ends g.W.Write.contents g.E.Write.contents c.args.out.now c.write_typed-parts.new.out c.end_parts.new.out c.end_parts.ensures.out_stays c.args.err.now c.write_typed-parts.new.err c.end_parts.new.err c.end_parts.ensures.stays
-    _ _ _ _ _ _ _ (λ kept os w. records c.write_typed-parts.new.sink.inner.seen earlier (items_of os) had (λ e h. (let m = w.1 e h in (m.0, Appends-kept _ _ _ _ m.1 kept)))) (λ kept os w. (records w.0.seen earlier (items_of os) had (λ e h. (let m = w.1.1 e h in (m.0, Appends-kept _ _ _ _ m.1 kept)))).0) c.write_typed-parts.result c.end_parts.result
-    (rw (c.new-sink.ensures.form, c.new-sink.ensures.inner, c.new-distinct.ensures.layout, c.new-distinct.ensures.seen, c.replace.ensures.value) at c.write_typed-parts.ensures.returned) c.end_parts.ensures.end
+    _ _ _ (WroteDistinct k l c.args.seen.now x y s) _ (KnownDistinct k l c.args.seen.now x y) _ (distinct_kept k l c.args.seen.now earlier out y s had) (known_distinct k l c.args.seen.now earlier out y had) c.write_typed-parts.result c.end_parts.result
+    written c.end_parts.ensures.end
