@@ -1,5 +1,5 @@
 -- How reading a stream ends whose items are written with their widths, and the status.
-use Rattle.std.proofs.Common.{◌≡◌, ◌⊎◌, inl, inr, ◌||◌, ℕ, Bool, true, false, List, [], ◌∷◌, ◌++◌, Option, None, Some, Result, Ok, Err, refl, sym, ap, ◌∙◌, subst, append-nil}
+use Rattle.std.proofs.Common.{◌≡◌, ◌⊎◌, inl, inr, ◌||◌, ℕ, Bool, true, false, List, [], ◌∷◌, ◌++◌, Option, None, Result, Ok, Err, refl, sym, ap, ◌∙◌, subst}
 use Rattle.std.specs.declared.io.Error.{Error}
 use Rattle.std.specs.List.{list_any}
 use Rattle.std.proofs.lemmas.Bool.{false_from_ne_true, both_ways}
@@ -18,7 +18,7 @@ use Rattle.souper_records.specs.Reports.{IsMemoryLine, IsFaultLine, IsReadFaultL
 use Rattle.souper_records.specs.Runs.{output_name, EndsWithFault, IsPartsEnd}
 use Rattle.souper_records.specs.Outcomes.{InputStream, Outcome, any_refused, parts_of, HaveItemStarts, WritesPart, WritesParts, EndsRefused, IsBegun}
 use Rattle.souper_records.proofs.Outcomes.{Reached, reached_more, reached_refusal, reached_end, stopped_after, parts_mapped, known_mapped}
-use Rattle.souper_typing.specs.Parts.{Rowed, outcomes_of, typed_outcomes, AreTaken, any_untyped, is_bad, ArePartLines, ReportedParts}
+use Rattle.souper_typing.specs.Parts.{Rowed, outcomes_of, typed_outcomes, AreTaken, any_untyped, is_bad, ReportedParts}
 use Rattle.souper_typing.specs.Results.{unsaid, TypesOutcomes, TypesParts, StopsTyping, IsTypingResult}
 use Rattle.souper_typing.specs.Runs.{ReportedPartsThen, IsTypingRun}
 use Rattle.souper_typing.proofs.Bools.{or_none}

@@ -1,7 +1,6 @@
 -- What the sink holds that writes widths.
-use Rattle.std.proofs.Common.{◌≡◌, ◌⊎◌, inl, inr, ◌||◌, ℕ, Bool, true, false, List, [], ◌∷◌, ◌++◌, map, Option, None, Some, Ok, Err, option_map, refl, sym, ap, subst, ◌∙◌, append-nil, String, string_bytes}
+use Rattle.std.proofs.Common.{◌≡◌, ◌⊎◌, inl, inr, ℕ, Bool, true, false, List, [], ◌∷◌, ◌++◌, map, Option, None, Some, Ok, Err, option_map, sym, ap, subst, ◌∙◌, append-nil, String, string_bytes}
 use Rattle.std.specs.declared.alloc.Global.{Global}
-use Rattle.std.specs.List.{list_any}
 use Rattle.std.proofs.lemmas.List.{map-append}
 use Rattle.std.proofs.lemmas.List.Folds.{list_any-append}
 use Rattle.std.proofs.lemmas.List.Elements.{filter_map-append}
@@ -11,7 +10,7 @@ use Rattle.souper_typed.specs.declared.form.Form.{Form}
 use Rattle.souper_records.specs.Outcomes.{Outcome}
 use Rattle.souper_typing.specs.declared.widened.Widened.{Widened}
 use Rattle.souper_typing.specs.Rows.{Row, IsRow, typed_item, typed_of, flaw_lines, is_flawed, any_flawed, IsTaken}
-use Rattle.souper_typing.specs.Parts.{Rowed, outcomes_of, typed_outcome, typed_outcomes, AreTaken, part_report}
+use Rattle.souper_typing.specs.Parts.{Rowed, typed_outcome, typed_outcomes, part_report}
 use Rattle.souper_typing.specs.Widened.{WidenedHolds, EndsWithReport, WidenedWrote}
 use Rattle.souper_typing.proofs.Bools.{or_false, or_true}
 use Rattle.souper_typing.proofs.Taken.{none_taken, no_rows, skipped, typed_more, flawed_more}

@@ -1,5 +1,5 @@
 -- What is reported of a part more.
-use Rattle.std.proofs.Common.{◌≡◌, ◌||◌, ℕ, Bool, true, false, List, [], ◌∷◌, ◌++◌, map, is_some, option_map, Option, Some, None, if◌then◌else◌, refl, sym, ap, ◌∙◌, subst, append_assoc, append-nil}
+use Rattle.std.proofs.Common.{◌≡◌, ℕ, Bool, true, false, List, [], ◌∷◌, ◌++◌, map, is_some, option_map, Option, Some, None, if◌then◌else◌, refl, sym, ap, ◌∙◌, append_assoc, append-nil}
 use Rattle.std.specs.List.{list_any, cons_option}
 use Rattle.std.proofs.lemmas.Bool.{false_from_ne_true, both_ways}
 use Rattle.std.proofs.lemmas.List.Folds.{list_any-append}
@@ -8,7 +8,7 @@ use Rattle.souper_watched.specs.Streams.{Stream, stream, IsGiven, IsGivenNothing
 use Rattle.souper_watched.specs.Watching.{has_failed}
 use Rattle.souper_watched.specs.declared.Watched.{Watched}
 use Rattle.souper_records.specs.Reports.{Refusal}
-use Rattle.souper_records.specs.Outcomes.{Outcome, refusals_of, AreErrorLines, AreReported}
+use Rattle.souper_records.specs.Outcomes.{refusals_of, AreErrorLines, AreReported}
 use Rattle.souper_typing.specs.Rows.{flaw_lines}
 use Rattle.souper_typing.specs.Parts.{Rowed, flaw_reports, part_report, text_or_none, has_flaw, is_bad, ArePartLines, ReportedParts, ReportedText}
 use Rattle.souper_typing.proofs.Bools.{or_none}

@@ -1,12 +1,11 @@
 -- Rows of items, as they are taken one after the other.
-use Rattle.std.proofs.Common.{◌≡◌, ◌⊎◌, inl, inr, ◌||◌, ℕ, Bool, true, false, List, [], ◌∷◌, ◌++◌, map, Option, None, Some, Ok, Err, refl, sym, ap, subst, ◌∙◌, append_assoc, append-nil}
-use Rattle.std.specs.List.{AllZip, list_any}
+use Rattle.std.proofs.Common.{◌≡◌, ◌⊎◌, inl, inr, ◌||◌, ℕ, Bool, true, false, List, [], ◌∷◌, ◌++◌, Ok, Err, refl, sym, ap, ◌∙◌, append_assoc, append-nil}
+use Rattle.std.specs.List.{AllZip}
 use Rattle.std.proofs.lemmas.List.Folds.{list_any-append}
 use Rattle.std.proofs.lemmas.Slice.Zip.{all_zipped_more}
 use Rattle.souper_graph.specs.Values.{Item}
 use Rattle.souper_typed.specs.declared.form.Form.{Form}
 use Rattle.souper_typing.specs.Rows.{Row, IsRow, is_flawed, any_flawed, EndsFlawed, IsTaken}
-use Rattle.souper_typing.proofs.Bools.{or_none}
 
 pub none_taken : (recover : Bool) (f : Form) → IsTaken recover f [] []
 none_taken recover f = record { front = []; rest = []; whole = refl; each = tt; all = λ e. refl; first = λ e. inl refl }

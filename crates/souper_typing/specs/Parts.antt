@@ -1,5 +1,5 @@
 -- Definitions. The parts of a stream with the rows of their items, and what is reported of them.
-use Rattle.std.specs.Prelude.{◌≡◌, ℕ, Bool, true, false, ◌||◌, List, [], ◌∷◌, ◌++◌, map, flat_map, codes, decimal, is_some, if◌then◌else◌, Option, Some, None}
+use Rattle.std.specs.Prelude.{◌≡◌, ℕ, Bool, false, ◌||◌, List, [], ◌∷◌, ◌++◌, map, flat_map, codes, decimal, is_some, if◌then◌else◌, Option, Some, None}
 use Rattle.std.specs.List.{zip, list_any, AllByRecursion}
 use Rattle.souper_watched.specs.Streams.{Stream, IsGiven, IsGivenNothing}
 use Rattle.souper_stream.specs.declared.starts.Start.{Start}

@@ -1,5 +1,5 @@
 -- Definitions. What each status of a run says whose items are written with their widths.
-use Rattle.std.specs.Prelude.{◌≡◌, ℕ, Bool, true, false, List, ◌++◌, Option}
+use Rattle.std.specs.Prelude.{◌≡◌, ℕ, true, false, List, ◌++◌, Option}
 use Rattle.souper_graph.specs.Values.{Item}
 use Rattle.souper_watched.specs.Streams.{Stream, IsGiven, IsGivenNothing}
 use Rattle.souper_typed.specs.declared.form.Form.{Form}

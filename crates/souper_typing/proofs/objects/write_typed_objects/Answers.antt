@@ -1,4 +1,4 @@
-use Rattle.std.proofs.Common.{◌||◌, refl}
+use Rattle.std.proofs.Common.{refl}
 use Rattle.std.specs.Prelude.{Err, None}
 use Rattle.souper_watched.specs.Streams.{stream}
 use Rattle.souper_watched.specs.Watching.{has_failed}

@@ -1,12 +1,10 @@
-use Rattle.std.proofs.Common.{◌≡◌, ◌||◌, Bool, true, false, List, [], ◌∷◌, refl, sym, ap, ◌∙◌, subst}
+use Rattle.std.proofs.Common.{◌≡◌, ◌||◌, false, [], refl, sym, ◌∙◌}
 use Rattle.std.proofs.KnownBytes.{Keeps-refl}
-use Rattle.std.specs.Prelude.{Option, None}
+use Rattle.std.specs.Prelude.{None}
 use Rattle.souper_watched.specs.Watching.{watched_inner, has_failed}
-use Rattle.souper_watched.specs.Streams.{stream}
 use Rattle.souper_records.specs.declared.stop.Stop.TheVariants.{Input}
 use Rattle.souper_records.specs.declared.stop.ReadFault.TheVariants.{Io}
-use Rattle.souper_records.specs.Outcomes.{Outcome, input_stream}
-use Rattle.souper_typing.specs.Results.{TypesParts}
+use Rattle.souper_records.specs.Outcomes.{input_stream}
 use Rattle.souper_typing.proofs.Bools.{or_swap, clash}
 use Rattle.souper_typing.proofs.Reporting.{none_reported}
 use Rattle.souper_typing.proofs.Stepping.{begun, step_of, part_unsaid}

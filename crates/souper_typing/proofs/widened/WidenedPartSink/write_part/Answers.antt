@@ -1,4 +1,4 @@
-use Rattle.std.proofs.Common.{◌≡◌, map, Option, option_map, refl, sym, ap, ◌∙◌, string_bytes}
+use Rattle.std.proofs.Common.{◌≡◌, map, option_map, refl, sym, ap, ◌∙◌, string_bytes}
 use Rattle.souper_watched.specs.Watching.{watched_inner}
 use Rattle.souper_typing.specs.Parts.{Rowed, typed_outcome, typed_outcomes, report_if, part_report}
 use Rattle.souper_typing.proofs.Holding.{held_none, wrote_more, idle_inner}
