@@ -36,15 +36,13 @@ fn json_arg(json: Arg<'_>) -> Result<Arg<'_>, AllocError> {
 }
 
 fn widths_arg<'a>(alloc: Global) -> Result<Arg<'a>, AllocError> {
-    arg!(in alloc; --widths "Write all widths; an item that has none is an error").conflicts_with_all(
-        &["complete", "lhs-key"],
+    arg!(in alloc; --widths "Write all widths; an item that has none is an error").conflicts_with(
+        "complete",
     )
 }
 
-fn complete_arg<'a>(alloc: Global) -> Result<Arg<'a>, AllocError> {
-    arg!(in alloc; --complete "The same, with each constant as a signed number").conflicts_with(
-        "lhs-key",
-    )
+fn complete_arg<'a>(alloc: Global) -> Arg<'a> {
+    arg!(in alloc; --complete "The same, with each constant as a signed number")
 }
 
 // A command that writes records, with their options, without its arguments.
@@ -73,6 +71,8 @@ fn format<'a>(alloc: Global) -> Result<Command<'a>, AllocError> {
         "line-buffered",
     ];
     let json = arg!(in alloc; --json "Write a line of JSON for each item and each parse error");
+    let lhs_key =
+        arg!(in alloc; --"lhs-key" "Write the key of the left-hand side of each replacement too");
     let write = arg!(in alloc; -w --write "Rewrite each file; comments and unused values are lost");
     let force = arg!(in alloc; --force "Rewrite write-protected files too");
     writer(alloc, "format")?
@@ -81,10 +81,12 @@ fn format<'a>(alloc: Global) -> Result<Command<'a>, AllocError> {
         .visible_alias("each")?
         .arg(json_arg(json)?)?
         .arg(
-            arg!(in alloc; --"lhs-key" "Write the key of the left-hand side of each replacement too"),
+            lhs_key
+                .conflicts_with("widths")?
+                .conflicts_with("complete")?,
         )?
         .arg(widths_arg(alloc)?)?
-        .arg(complete_arg(alloc)?)?
+        .arg(complete_arg(alloc))?
         .arg(write.conflicts_with_all(&others)?)?
         .arg(force.requires_arg("write")?)?
         .arg(kind_arg(alloc))?
@@ -99,7 +101,7 @@ fn uniq<'a>(alloc: Global) -> Result<Command<'a>, AllocError> {
         .about("Writes the record of the first item of each graph in all files")
         .after_help("Example: souper_items uniq --rename --count lhs *.lhs")
         .arg(widths_arg(alloc)?)?
-        .arg(complete_arg(alloc)?)?
+        .arg(complete_arg(alloc))?
         .arg(count.conflicts_with("line-buffered")?)?
         .arg(repeated.conflicts_with("line-buffered")?)?
         .arg(kind_arg(alloc))?
@@ -131,7 +133,7 @@ fn check<'a>(alloc: Global) -> Result<Command<'a>, AllocError> {
         .after_help("Example: souper_items check --diff lhs *.lhs | patch -p1")
         .arg(arg!(in alloc; --diff "Write what would change, as a unified diff"))?
         .arg(list.conflicts_with("diff")?)?
-        .arg(widths.conflicts_with_all(&["diff", "list"])?)?
+        .arg(widths.conflicts_with("diff")?.conflicts_with("list")?)?
         .arg(color_arg(alloc))?
         .arg(quiet_arg(alloc))?
         .arg(kind_arg(alloc))?
