@@ -56,7 +56,8 @@ enum {
     SOUPER_DIFFERENT = 6,       /* to a question, no */
     SOUPER_NO_CODE = 7,         /* the bytes are the code of no list of items of the kind */
     SOUPER_NOT_WELL_FORMED = 8, /* the bytes are the code of items, and one of them is not well formed */
-    SOUPER_NO_FLAGS = 9         /* a flag is none of the three */
+    SOUPER_NO_FLAGS = 9,        /* a flag is none of the three */
+    SOUPER_NO_WIDTHS = 10       /* the bytes begin with the code of an item that has no widths */
 };
 
 /* Flags of souper_key; they may be combined by `|`. */
@@ -87,6 +88,28 @@ enum {
     SOUPER_DUPLICATE_NAME = 9             /* a needed assignment before it has the same name */
 };
 
+/* Why an item has no widths. Of flaws of one row the first in the item is told; those of an earlier row come before. */
+enum {
+    SOUPER_TYPED_BLOCK = 1,      /* a block has a type */
+    SOUPER_FACT_ON_COMPUTED = 2, /* a fact is about a value that is no input */
+    SOUPER_BLOCK_AS_VALUE = 3,   /* an operand or a root is a block */
+    SOUPER_PAIR_AS_VALUE = 4,    /* an operand or a root is the value of a word .with.overflow */
+    SOUPER_NOT_A_PAIR = 5,       /* the first operand of extractvalue is none */
+    SOUPER_BAD_INDEX = 6,        /* the second is not 0 or 1 */
+
+    SOUPER_CONFLICT = 7, /* a width has to be both `left` and `right` */
+
+    SOUPER_UNDETERMINED = 8, /* nothing says which width it is */
+
+    SOUPER_NOT_WIDER = 9,          /* the result of zext or sext is not wider than the operand */
+    SOUPER_NOT_NARROWER = 10,      /* the result of trunc is not narrower */
+    SOUPER_BYTE_SWAP = 11,         /* the width of bswap is not a multiple of 16 */
+    SOUPER_CONSTANT_TOO_WIDE = 12, /* a constant does not fit its width */
+    SOUPER_BIT_COUNT = 13,         /* known or demanded bits are not as many as the width */
+    SOUPER_SIGN_BITS = 14,         /* there are more sign bits than the width has */
+    SOUPER_RANGE = 15              /* an end of a range does not fit, or equal ends say neither nothing nor everything */
+};
+
 /* What a call did. What is not named for the status is 0. */
 typedef struct SouperOutcome {
     uint32_t status;
@@ -113,6 +136,18 @@ typedef struct SouperFlaw {
     uint32_t reason;   /* NOT_WELL_FORMED: one of the nine */
     size_t position;   /* AT_STATEMENT: the position of the statement among those of the item, from 0 */
 } SouperFlaw;
+
+/* The widths of an item, or its first flaw. What is not named for the status is 0. */
+typedef struct SouperWidths {
+    uint32_t status;
+    uint32_t location; /* NOT_WELL_FORMED, NO_WIDTHS: one of the four */
+    uint32_t reason;   /* NOT_WELL_FORMED: one of the nine; NO_WIDTHS: one of the fifteen */
+    uint32_t left;     /* CONFLICT: one of the two widths */
+    uint32_t right;    /* CONFLICT: the other */
+    uint32_t root;     /* DONE, SHORT: the width of the operands of the last lines */
+    size_t position;   /* AT_STATEMENT: the position of the statement among those of the item, from 0 */
+    size_t length;     /* DONE: how many widths were written; SHORT: how many would be */
+} SouperWidths;
 
 /* The version of the library: 1,000,000 times the major number, 1,000 times the minor number, and the patch number. */
 uint32_t souper_version(void);
@@ -152,6 +187,17 @@ SOUPER_CALL SouperOutcome souper_write(uint32_t kind, const uint8_t *code, size_
  * DONE: the item is well formed. NOT_WELL_FORMED: it is not; of its needed statements in their order, and then of its last lines,
  * the first that is not is told. NO_CODE: the bytes begin with the code of no item of the kind. NO_KIND, OUT_OF_MEMORY. */
 SOUPER_CALL SouperFlaw souper_flaw(uint32_t kind, const uint8_t *code, size_t code_length);
+
+/* Writes the widths, in bits, of the item whose code the bytes begin with to the beginning of `out`: of the result of each statement in
+ * the order of the code, and then of the operands of each. A width is 0 where there is none (a block, a path condition, the operands of
+ * an input), and of a statement that the item does not need. The condition of a select has one bit besides; the value of a word
+ * .with.overflow has one bit more than its operands. What comes after the item's code is not read.
+ *
+ * DONE: `length` widths were written, twice as many as there are statements. SHORT: `out` has room for fewer. NOT_WELL_FORMED, NO_WIDTHS:
+ * the first flaw is told. NO_CODE: the bytes begin with the code of no item of the kind. NO_KIND, OUT_OF_MEMORY.
+ *
+ * The other elements of `out` are as before; unless the status is DONE, all of them. */
+SOUPER_CALL SouperWidths souper_widths(uint32_t kind, const uint8_t *code, size_t code_length, uint32_t *out, size_t out_length);
 
 /* Writes the record of each item that the text spells to the beginning of `out`: its canonical text and a newline, and what
  * the flags add or change. The program souper_items writes the same records.
@@ -242,6 +288,8 @@ SOUPER_INLINE const char *souper_status_text(uint32_t status) {
         return "not well formed";
     case SOUPER_NO_FLAGS:
         return "no such flag";
+    case SOUPER_NO_WIDTHS:
+        return "no widths";
     default:
         return "unknown";
     }
@@ -268,6 +316,44 @@ SOUPER_INLINE const char *souper_reason_text(uint32_t reason) {
         return "its block has no such predecessor";
     case SOUPER_DUPLICATE_NAME:
         return "an assignment before it has the same name";
+    default:
+        return "unknown";
+    }
+}
+
+/* The same of the reason why an item has no widths. */
+SOUPER_INLINE const char *souper_width_reason_text(uint32_t reason) {
+    switch (reason) {
+    case SOUPER_TYPED_BLOCK:
+        return "a block has no width";
+    case SOUPER_FACT_ON_COMPUTED:
+        return "only an input has facts";
+    case SOUPER_BLOCK_AS_VALUE:
+        return "a block is no value";
+    case SOUPER_PAIR_AS_VALUE:
+        return "only extractvalue takes the value of a word .with.overflow";
+    case SOUPER_NOT_A_PAIR:
+        return "extractvalue takes the value of a word .with.overflow";
+    case SOUPER_BAD_INDEX:
+        return "the index of extractvalue is 0 or 1";
+    case SOUPER_CONFLICT:
+        return "two widths clash";
+    case SOUPER_UNDETERMINED:
+        return "a width is missing";
+    case SOUPER_NOT_WIDER:
+        return "the result is not wider than the operand";
+    case SOUPER_NOT_NARROWER:
+        return "the result is not narrower than the operand";
+    case SOUPER_BYTE_SWAP:
+        return "the width of bswap is a multiple of 16";
+    case SOUPER_CONSTANT_TOO_WIDE:
+        return "a constant does not fit its width";
+    case SOUPER_BIT_COUNT:
+        return "not as many bits as the width";
+    case SOUPER_SIGN_BITS:
+        return "more sign bits than the width";
+    case SOUPER_RANGE:
+        return "not a range of the width";
     default:
         return "unknown";
     }

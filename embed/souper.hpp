@@ -1129,6 +1129,63 @@ inline std::string to_string(const flaw &f) { return f.shown(); }
 
 inline std::ostream &operator<<(std::ostream &out, const flaw &f) { return out << f.shown(); }
 
+/// Why an item has no widths. Of flaws of one line of the list the first in the item is told; those of an earlier line come before.
+enum class width_reason : std::uint32_t {
+    typed_block = SOUPER_TYPED_BLOCK,             ///< a block has a type
+    fact_on_computed = SOUPER_FACT_ON_COMPUTED,   ///< a fact is about a value that is no input
+    block_as_value = SOUPER_BLOCK_AS_VALUE,       ///< an operand or a root is a block
+    pair_as_value = SOUPER_PAIR_AS_VALUE,         ///< an operand or a root is the value of a word .with.overflow
+    not_a_pair = SOUPER_NOT_A_PAIR,               ///< the first operand of extractvalue is none
+    bad_index = SOUPER_BAD_INDEX,                 ///< the second is not 0 or 1
+    conflict = SOUPER_CONFLICT,                   ///< a width has to be both `left` and `right`
+    undetermined = SOUPER_UNDETERMINED,           ///< nothing says which width it is
+    not_wider = SOUPER_NOT_WIDER,                 ///< the result of zext or sext is not wider than the operand
+    not_narrower = SOUPER_NOT_NARROWER,           ///< the result of trunc is not narrower
+    byte_swap = SOUPER_BYTE_SWAP,                 ///< the width of bswap is not a multiple of 16
+    constant_too_wide = SOUPER_CONSTANT_TOO_WIDE, ///< a constant does not fit its width
+    bit_count = SOUPER_BIT_COUNT,                 ///< known or demanded bits are not as many as the width
+    sign_bits = SOUPER_SIGN_BITS,                 ///< there are more sign bits than the width has
+    range = SOUPER_RANGE                          ///< an end of a range does not fit, or equal ends say neither nothing nor everything
+};
+
+inline std::string to_string(width_reason why) {
+    const auto number = static_cast<std::uint32_t>(why);
+    const std::string_view text = souper_width_reason_text(number);
+    return text == "unknown" ? detail::unknown(number) : std::string(text);
+}
+
+inline std::ostream &operator<<(std::ostream &out, width_reason why) { return out << to_string(why); }
+
+/// The first flaw of an item that has no widths.
+struct width_flaw {
+    flaw_location location = flaw_location::at_statement;
+    width_reason reason = width_reason::undetermined;
+    std::uint32_t left = 0, right = 0; ///< conflict: the two widths
+    std::size_t position = 0;          ///< at_statement: its position, from 0; else 0
+    std::string name = {};             ///< at_statement: the name, if it is an assignment; else empty
+
+    /// Where and why.
+    std::string shown() const {
+        const flaw at{location, flaw_reason::invalid_name, position, name,
+                      reason == width_reason::conflict ? "i" + std::to_string(left) + " and i" + std::to_string(right) + " clash"
+                                                       : to_string(reason)};
+        return at.shown();
+    }
+};
+
+inline std::string to_string(const width_flaw &f) { return f.shown(); }
+
+inline std::ostream &operator<<(std::ostream &out, const width_flaw &f) { return out << f.shown(); }
+
+/// The widths of an item, in bits, by the positions of its statements; or why it has none. A width is 0 where there is none, and of a
+/// statement that the item does not need.
+struct widths {
+    std::vector<std::uint32_t> results = {};  ///< of the result of each statement; a block and a path condition have none
+    std::vector<std::uint32_t> operands = {}; ///< of the operands of each statement; the condition of a select has one bit besides
+    std::uint32_t root = 0;                   ///< of the operands of the last lines
+    std::optional<width_flaw> why = {};       ///< why the item has no widths; none if it has
+};
+
 /// Where a text is at fault: where the token at fault begins or, if the text ended where more is wanted, where it ends, without the
 /// white space at its end.
 struct location {
@@ -2214,6 +2271,41 @@ inline std::optional<flaw> flaw_of(kind k, std::string_view code, const item &on
     return why;
 }
 
+// Writes the numbers of the library.
+inline void tell(const SouperWidths &found, const item &one, const std::vector<std::uint32_t> &numbers, widths &out) {
+    const auto middle = numbers.begin() + static_cast<std::ptrdiff_t>(numbers.size() / 2);
+    if (found.status == SOUPER_DONE) {
+        out = widths{{numbers.begin(), middle}, {middle, numbers.end()}, found.root};
+        return;
+    }
+    width_flaw why{static_cast<flaw_location>(found.location), static_cast<width_reason>(found.reason), found.left, found.right,
+                   found.position};
+    const assignment *at = why.location == flaw_location::at_statement ? one.at(id{found.position}) : nullptr;
+    why.name = at != nullptr ? at->name : std::string();
+    out = widths{{}, {}, 0, std::move(why)};
+}
+
+inline bool measure(kind k, const item &one, widths &out, error &e) {
+    buffer code;
+    std::size_t next = 0;
+    if (!encode_part(k, &one, 1, next, code, e)) {
+        return false;
+    }
+    std::vector<std::uint32_t> numbers(2 * one.statements.size());
+    std::uint32_t none = 0;
+    const SouperWidths found = souper_widths(static_cast<std::uint32_t>(k), bytes(code.view()), code.size(),
+                                             numbers.empty() ? &none : numbers.data(), numbers.size());
+    if (found.status == SOUPER_DONE || found.status == SOUPER_NO_WIDTHS) {
+        tell(found, one, numbers, out);
+        return true;
+    }
+    e.what = static_cast<status>(found.status);
+    if (e.what == status::not_well_formed) {
+        e.why = flaw_of(k, code.view(), one);
+    }
+    return false;
+}
+
 inline bool write(kind k, const item *items, std::size_t count, std::string &out, error &e) {
     buffer code, text;
     std::size_t next = 0, before = 0; // the items, and the bytes of code, that are written
@@ -2408,6 +2500,16 @@ inline namespace SOUPER_FORM {
 /// The same of the item's own kind.
 [[nodiscard]] inline bool try_write(const item &one, std::string &text, error &e) noexcept {
     return try_write(kind_of(one), one, text, e);
+}
+
+/// See `widths_of`.
+[[nodiscard]] inline bool try_widths(kind k, const item &one, widths &out, error &e) noexcept {
+    return detail::guarded(out, e, [&](auto &o, error &why) { return detail::measure(k, one, o, why); });
+}
+
+/// The same of the item's own kind.
+[[nodiscard]] inline bool try_widths(const item &one, widths &out, error &e) noexcept {
+    return try_widths(kind_of(one), one, out, e);
 }
 
 /// See `canonical`.
@@ -2656,6 +2758,16 @@ inline std::vector<std::vector<std::string>> find(std::string_view store, std::s
 /// `std::invalid_argument`, and nothing changes, if this comes back to a value; a value by itself stays.
 template <typename Pairs> void replace_uses(item &i, const Pairs &pairs) {
     detail::output<bool>([&](bool &, error &e) { return try_replace_uses(i, pairs, e); });
+}
+
+/// The widths of the item, or why it has none. Throws `not_well_formed`, as `write` does.
+inline widths widths_of(kind k, const item &one) {
+    return detail::output<widths>([&](widths &out, error &e) { return try_widths(k, one, out, e); });
+}
+
+/// The same of the item's own kind.
+inline widths widths_of(const item &one) {
+    return widths_of(kind_of(one), one);
 }
 
 /// The code of items, which `decode` and souper_write read. Throws `not_well_formed` if an item has a value without a code: the reasons

@@ -1423,6 +1423,32 @@ class IllFormed(unittest.TestCase):
         self.assertEqual(souper.canonical("lhs", item), self.GOOD)
 
 
+
+class WidthsOfItems(unittest.TestCase):
+    def assert_flawed(self, text: str, shown: str) -> None:
+        [item] = souper.read("lhs", text)
+        with self.assertRaises(souper.NoWidths) as raised:
+            souper.widths("lhs", item)
+        self.assertEqual(str(raised.exception.flaw), shown)
+
+    def test_widths(self) -> None:
+        text = "%x:i8 = var %p = uadd.with.overflow %x, 1 %o = extractvalue %p, 1 infer %o"
+        [item] = souper.read("lhs", text)
+        self.assertEqual(souper.widths("lhs", item), souper.Widths((8, 9, 1), (0, 8, 9), 1))
+
+    def test_no_statements(self) -> None:
+        item = Item((), Result(Constant(1, 8)))
+        self.assertEqual(souper.widths("rhs", item), souper.Widths((), (), 8))
+
+    def test_flaws(self) -> None:
+        self.assert_flawed("%x = var infer %x", "statement 0 (%x): a width is missing")
+        self.assert_flawed("%x:i8 = var pc %x 1:i9 infer %x", "statement 1: i9 and i8 clash")
+        self.assert_flawed("%x:i1 = var infer %x (demandedBits=11)", "infer line: not as many bits as the width")
+
+    def test_not_well_formed(self) -> None:
+        self.assertRaises(souper.NotWellFormed, souper.widths, "lhs", Item((), Infer(Value(0))))
+
+
 class Damaged(unittest.TestCase):
     """Bytes that are codes or not: `decode` and ``souper_write`` agree on which."""
 

@@ -340,6 +340,7 @@ static void found(void) {
 static void numbers(void) {
     static const uint32_t none[] = {3, 7, 256, 0x80000000u, UINT32_MAX};
     uint8_t byte = 0xaa, empty = 0, bad[] = {'%', 'x', 0xff}, bad_line[] = {0xff, '\n'};
+    uint32_t width = 0xaa;
     SouperOutcome no_kind = nothing, no_text = nothing;
     no_kind.status = SOUPER_NO_KIND;
     no_text.status = SOUPER_NOT_UTF8;
@@ -357,6 +358,7 @@ static void numbers(void) {
         expect(is_located(souper_locate(none[i], bad, sizeof bad), SOUPER_NO_KIND, 0, 0, 0, 0), "no kind, locate", NULL);
         expect(equal(souper_hint(none[i], 0, bad, sizeof bad, &byte, 1), no_kind) && byte == 0xaa, "no kind, hint", NULL);
         expect(souper_flaw(none[i], bad, sizeof bad).status == SOUPER_NO_KIND, "no kind, flaw", NULL);
+        expect(souper_widths(none[i], bad, sizeof bad, &width, 1).status == SOUPER_NO_KIND && width == 0xaa, "no kind, widths", NULL);
         expect(equal(souper_last_cut(none[i], bad, sizeof bad), no_kind), "no kind, last cut", NULL);
         expect(equal(souper_first_segment(none[i], bad, sizeof bad), no_kind), "no kind, first segment", NULL);
         expect(equal(souper_same(none[i], bad, sizeof bad, bad, sizeof bad), no_kind), "no kind, same", NULL);
@@ -371,6 +373,7 @@ static void numbers(void) {
         expect(is_located(souper_locate(kind, bad, sizeof bad), SOUPER_NOT_UTF8, 0, 0, 0, 0), "no text, locate", NULL);
         expect(equal(souper_hint(kind, 0, bad, sizeof bad, &byte, 1), no_text) && byte == 0xaa, "no text, hint", NULL);
         expect(souper_flaw(kind, bad, sizeof bad).status == SOUPER_NO_CODE, "no code, flaw", NULL);
+        expect(souper_widths(kind, bad, sizeof bad, &width, 1).status == SOUPER_NO_CODE && width == 0xaa, "no code, widths", NULL);
         expect(equal(souper_last_cut(kind, bad, sizeof bad), nothing), "an unfinished line, last cut", NULL);
         expect(equal(souper_last_cut(kind, bad_line, sizeof bad_line), no_text), "no text, last cut", NULL);
         expect(equal(souper_first_segment(kind, bad, sizeof bad), no_text), "no text, first segment", NULL);
@@ -388,9 +391,32 @@ static void numbers(void) {
     }
 }
 
+/* What is said of the left-hand side, with room for so many widths. */
+static SouperWidths widths(const char *text, uint32_t *out, size_t room) {
+    uint8_t code[512];
+    const SouperOutcome coded = souper_read(SOUPER_LHS, (const uint8_t *)text, strlen(text), code, sizeof code);
+    expect(coded.status == SOUPER_DONE, "a code for widths", NULL);
+    return souper_widths(SOUPER_LHS, code, coded.length, out, room);
+}
+
+static void widths_and_flaws(void) {
+    uint32_t out[6] = {1, 1, 1, 1, 1, 1};
+    const char *typed = "%x:i8 = var  %y = uadd.with.overflow %x, 1  %z = extractvalue %y, 1  infer %z";
+    SouperWidths found = widths(typed, out, 5);
+    expect(found.status == SOUPER_SHORT && found.length == 6 && found.root == 1 && out[0] == 1, "widths, short", NULL);
+    found = widths(typed, out, 6);
+    expect(found.status == SOUPER_DONE && found.length == 6 && found.root == 1 && found.reason == 0, "widths", NULL);
+    expect(out[0] == 8 && out[1] == 9 && out[2] == 1 && out[3] == 0 && out[4] == 8 && out[5] == 9, "widths, written", NULL);
+    found = widths("%x:i8 = var  %y:i9 = add %x, 1  infer %y", out, 6);
+    expect(found.status == SOUPER_NO_WIDTHS && found.location == SOUPER_AT_STATEMENT && found.position == 1, "no widths", NULL);
+    expect(found.reason == SOUPER_CONFLICT && found.left == 9 && found.right == 8 && out[0] == 8, "widths that clash", NULL);
+    found = widths("%x = var  infer %x", out, 6);
+    expect(found.status == SOUPER_NO_WIDTHS && found.reason == SOUPER_UNDETERMINED && found.position == 0, "a width is missing", NULL);
+}
+
 /* The texts of the numbers that the header has are distinct; every other number is unknown. */
 static void texts(const char *(*text_of)(uint32_t), uint32_t first, uint32_t last) {
-    static const uint32_t none[] = {10, 11, 1000, 0x80000000u, UINT32_MAX};
+    static const uint32_t none[] = {16, 17, 1000, 0x80000000u, UINT32_MAX};
     for (uint32_t number = first; number <= last; number++) {
         expect(strcmp(text_of(number), "unknown") != 0, "a text", NULL);
         for (uint32_t other = first; other < number; other++) {
@@ -425,8 +451,10 @@ int main(int argc, char **argv) {
     hints();
     found();
     numbers();
-    texts(souper_status_text, SOUPER_DONE, SOUPER_NO_FLAGS);
+    widths_and_flaws();
+    texts(souper_status_text, SOUPER_DONE, SOUPER_NO_WIDTHS);
     texts(souper_reason_text, SOUPER_INVALID_NAME, SOUPER_DUPLICATE_NAME);
+    texts(souper_width_reason_text, SOUPER_TYPED_BLOCK, SOUPER_RANGE);
     expect(strcmp(souper_status_text(SOUPER_NOT_UTF8), "not UTF-8") == 0, "the text of a status", NULL);
     expect(strcmp(souper_reason_text(0), "unknown") == 0, "a reason of 0", NULL);
     free_records(records);

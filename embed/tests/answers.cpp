@@ -206,6 +206,20 @@ void wrong_kind() {
 
 } // namespace
 
+void widths() {
+    const auto item = [](std::string_view text) { return souper::read(souper::kind::lhs, text).at(0); };
+    const souper::widths typed = souper::widths_of(item("%x:i8 = var  %y = eq %x, 1  infer %y"));
+    expect(!typed.why && typed.results == std::vector<std::uint32_t>{8, 1} && typed.operands == std::vector<std::uint32_t>{0, 8},
+           "widths", nullptr);
+    expect(typed.root == 1, "the width of the root", nullptr);
+    const souper::widths flawed = souper::widths_of(item("%x:i8 = var  %y:i9 = add %x, 1  infer %y"));
+    expect(flawed.results.empty() && flawed.why && to_string(*flawed.why) == "statement 1 (%y): i9 and i8 clash", "no widths", nullptr);
+    souper::error e;
+    souper::widths none;
+    expect(!souper::try_widths(souper::item{}, none, e) && e.what == souper::status::not_well_formed && e.why.has_value(),
+           "the widths of what is not well formed", nullptr);
+}
+
 int main(int argc, char **argv) {
     std::size_t count;
     Record *records = read_records(argc == 2 ? argv[1] : "", &count);
@@ -226,6 +240,7 @@ int main(int argc, char **argv) {
     locations();
     hints();
     wrong_kind();
+    widths();
     free_records(records);
     return summary("C++: the stored answers, exceptions, views without bytes");
 }

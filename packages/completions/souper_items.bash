@@ -25,10 +25,10 @@ _souper_items() {
         return
     fi
     case ${COMP_WORDS[1]} in
-    format | each) options="$shared -z --null -0 --null-data --key --rename -k --keep-going --line-buffered --json --lhs-key -w --write --force" ;;
-    uniq) options="$shared -z --null -0 --null-data --key --rename -k --keep-going --line-buffered -c --count -d --repeated" ;;
+    format | each) options="$shared -z --null -0 --null-data --key --rename -k --keep-going --line-buffered --json --lhs-key --widths --complete -w --write --force" ;;
+    uniq) options="$shared -z --null -0 --null-data --key --rename -k --keep-going --line-buffered --widths --complete -c --count -d --repeated" ;;
     find) options="$shared -z --null -0 --null-data --key --rename -k --keep-going --line-buffered --in --first --unanswered --json" ;;
-    check) options="$shared --diff -l --list" ;;
+    check) options="$shared --diff -l --list --widths" ;;
     help)
         [[ $COMP_CWORD -eq 2 ]] && mapfile -t COMPREPLY < <(compgen -W 'format uniq find check' -- "$word")
         return

@@ -108,7 +108,7 @@ own_heap() { # the archive alone, over a heap of the program
 exports() { # the shared library exports what the header declares, under one version
     local declared
     declared=$(sed -n 's/^\(SOUPER_CALL \)\?[A-Za-z0-9_]* \(souper_[a-z_]*\)(.*/\2/p' "$PREFIX/include/souper.h" | sort)
-    [ "$(wc -w <<<"$declared")" -eq 13 ] || return 1
+    [ "$(wc -w <<<"$declared")" -eq 14 ] || return 1
     nm -D --defined-only "$LIB/libsouper_c.so" | awk '$2 == "T" {print $3}' | sort | diff - <(sed 's/$/@@SOUPER_1/' <<<"$declared")
 }
 

@@ -10,7 +10,9 @@ use souper_ir::ast::LeftHandSide;
 use souper_records::check::check_run;
 use souper_records::layout::{Layout, Summary};
 use souper_records::options::ReadOptions;
-use souper_records::run::{count_run, each_run_with, objects_run_with, uniq_run_with};
+use souper_records::output;
+use souper_records::rows::rows_run;
+use souper_records::run::{count_run, each_run_with, uniq_run_with};
 use souper_records::seen::Seen;
 use souper_stream::StreamItem;
 use std::alloc::{AllocError, Global};
@@ -184,9 +186,16 @@ impl Session {
             digest: &mut self.err,
         });
         let mut reader = BufReader::with_capacity(self.alloc, CAPACITY, text.as_bytes())?;
-        let status = objects_run_with::<LeftHandSide, BufReader<&[u8]>, Output<'_>, Output<'_>>(
+        let status = rows_run::<
+            LeftHandSide,
+            String,
+            output::Output,
+            BufReader<&[u8]>,
+            Output<'_>,
+            Output<'_>,
+        >(
             self.alloc,
-            false,
+            output::Output::Objects { rename: false },
             read_options("store", true),
             &mut reader,
             &mut out,

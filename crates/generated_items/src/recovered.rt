@@ -4,6 +4,7 @@ ghost use Rattle.souper_graph.specs.Syntax.Spelling.{ItemType};
 ghost use Rattle.souper_stream.specs.Parts.{HasParts};
 
 use crate::law::Broken;
+use souper_ir::ast::{Arena, Statement};
 use souper_ir::parse::{ParseError, ParseErrorKind, Sink, WholeItem};
 use souper_ir::stringify::TextError;
 use souper_stream::{ChunkSink, ItemReader, Start, StreamItem};
@@ -52,12 +53,13 @@ pub(crate) struct Texts {
 impl<T: WholeItem + Drop> Sink<T> for Texts {
     ghost holds = { λ first texts items. Unit {0} };
 
-    fn take(&mut self, item: T) -> Result<(), AllocError> {
+    fn take(&mut self, item: T) -> Result<Option<Arena<Statement>>, AllocError> {
         match item.append_text(&mut self.out) {
-            Ok(()) => self.out.push_str("\n"),
-            Err(TextError::OutOfMemory) => Err(AllocError),
-            Err(_) => Ok(()),
+            Ok(()) => self.out.push_str("\n")?,
+            Err(TextError::OutOfMemory) => return Err(AllocError),
+            Err(_) => {}
         }
+        Ok(None)
     }
 }
 

@@ -7,7 +7,9 @@ use souper_format::watched::Watched;
 use souper_ir::ast::LeftHandSide;
 use souper_records::layout::{Delimiter, Layout, PLAIN};
 use souper_records::options::ReadOptions;
-use souper_records::run::{each_run_with, objects_run_with, uniq_run_with};
+use souper_records::output::Output;
+use souper_records::rows::rows_run;
+use souper_records::run::{each_run_with, uniq_run_with};
 use souper_records::seen::Seen;
 use std::alloc::Global;
 use std::io;
@@ -76,9 +78,12 @@ fn run(alloc: Global, command: Command, mut source: &[u8], want: Want<'_>) -> Re
         Command::Uniq => uniq_run_with::<LeftHandSide, &[u8], &mut [u8], &mut [u8]>(
             PLAIN, options, &mut seen, source, out, err,
         ),
-        Command::Objects => objects_run_with::<LeftHandSide, &[u8], &mut [u8], &mut [u8]>(
-            alloc, false, options, source, out, err,
-        ),
+        Command::Objects => {
+            let output = Output::Objects { rename: false };
+            rows_run::<LeftHandSide, String, Output, &[u8], &mut [u8], &mut [u8]>(
+                alloc, output, options, source, out, err,
+            )
+        }
     };
     let met = completed_if(alloc, status == want.status);
     did(status, &written, &reported, want)?;

@@ -42,12 +42,7 @@ struct Dropped {
 impl<T: WholeItem + Drop> Sink<T> for Dropped {
     ghost holds = { λ first dropped items. Unit {0} };
 
-    fn take(&mut self, item: T) -> Result<(), AllocError> {
-        Sink::<T>::take_over(self, item)?;
-        Ok(())
-    }
-
-    fn take_over(&mut self, mut item: T) -> Result<Option<Arena<Statement>>, AllocError> {
+    fn take(&mut self, mut item: T) -> Result<Option<Arena<Statement>>, AllocError> {
         match item.append_text(&mut self.text) {
             Ok(()) => Ok(item.take_statements()),
             Err(_) => Err(AllocError),

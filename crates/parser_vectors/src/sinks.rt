@@ -2,6 +2,7 @@
 
 ghost use Rattle.std.specs.Prelude.{◌≡◌, length};
 
+use souper_ir::ast::{Arena, Statement};
 use souper_ir::parse::{Sink, WholeItem};
 use std::alloc::AllocError;
 
@@ -14,11 +15,11 @@ pub struct Count {
 impl<T: WholeItem + Drop> Sink<T> for Count {
     ghost holds = { λ first count items. count.items ≡ length items };
 
-    fn take(&mut self, _item: T) -> Result<(), AllocError> {
+    fn take(&mut self, _item: T) -> Result<Option<Arena<Statement>>, AllocError> {
         match self.items.checked_add(1) {
             Some(items) => {
                 self.items = items;
-                Ok(())
+                Ok(None)
             }
             None => Err(AllocError),
         }

@@ -17,8 +17,9 @@ ghost use Rattle.souper_calls.specs.Locations.{HasNoLocation, LocatesFault};
 ghost use Rattle.souper_calls.specs.Cuts.{OfWholeLines, CutsLast, HasFirstSegment, HasBadStart};
 ghost use Rattle.souper_calls.specs.Hints.{WritesHint, IsShortHint};
 ghost use Rattle.souper_calls.specs.FlawAnswers.{answer_without, IsFlawAnswer};
+ghost use Rattle.souper_width_calls.specs.Answers.{widths_without, IsWidthsAnswer};
 
-pub use souper_calls::{SouperFlaw, SouperLocation, SouperOutcome};
+pub use souper_calls::{SouperFlaw, SouperLocation, SouperOutcome, SouperWidths};
 use std::alloc::Global;
 
 /// The version of the library: 1,000,000 times the major number, 1,000 times the minor number, and the patch number.
@@ -176,6 +177,32 @@ pub extern "C" fn souper_flaw(alloc: Global, kind: u32, code: &[u8]) -> SouperFl
     ensures answered { IsKind kind → OfType kind (λ k. IsFlawAnswer k code.now result) }
 {
     souper_calls::souper_flaw(alloc, kind, code)
+}
+
+/// Writes the widths of the item whose code `code` begins with to the beginning of `out`: of the result of each statement, and then of
+/// the operands of each; 0 for none, and for a statement that the item does not need. Other bytes of the code are not read.
+///
+/// - 0, done: `length` widths were written, and `root` is the width of the operands of the last lines.
+/// - 2: the kind is no kind.
+/// - 3: memory ran out.
+/// - 5: `out` has room for fewer than `length` widths.
+/// - 7: the bytes begin with the code of no item of the kind.
+/// - 8: the item is not well formed; `location`, `position` and `reason` are as for [`souper_flaw`].
+/// - 10: the item has no widths. `location`, `position` and `reason` are the numbers of its first flaw; of two widths that clash `left`
+///   and `right` are both.
+///
+/// Unless the status is 0, `out` is as it was.
+#[unsafe(no_mangle)]
+pub extern "C" fn souper_widths(
+    alloc: Global,
+    kind: u32,
+    code: &[u8],
+    out: &mut [u32],
+) -> SouperWidths
+    ensures no_kind { type_of_number kind ≡ None → (result ≡ widths_without 2) × (out.new ≡ out.old) }
+    ensures answered { IsKind kind → OfType kind (λ k. IsWidthsAnswer k code.now out.old result out.new) }
+{
+    souper_calls::souper_widths(alloc, kind, code, out)
 }
 
 /// Whether `text` is canonical: the canonical text of each item that it spells, a newline after each.

@@ -9,8 +9,7 @@ use Rattle.souper_ir.specs.Laws.Peeks.{some_is}
 use Rattle.souper_format.specs.declared.command.Kind.{Kind}
 use Rattle.souper_format.specs.declared.command.Kind.TheVariants.{Lhs, Rhs, Rep}
 use Rattle.souper_format.specs.declared.items.Items.{Items}
-use Rattle.souper_format.specs.Kinds.{item_type_of, kind_of_items, view_items}
-use Rattle.souper_format.specs.Same.{SameItems}
+use Rattle.souper_format.specs.Kinds.{item_type_of, kind_of_items, view_items, SameItems}
 use Rattle.souper_calls.specs.Kinds.{type_of_number, OfType}
 use Rattle.souper_calls.specs.Outcomes.{BothSpell, AreSameItems, AreNotSame, IsNoTextInput, SpellsSome}
 use Rattle.souper_calls.specs.Failures.{IsFailure, outcome_of}

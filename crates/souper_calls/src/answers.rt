@@ -65,15 +65,7 @@ impl Groups<'_> {
 impl Sink<LeftHandSide> for Groups<'_> {
     ghost holds = { λ first groups items. (groups.store ≡ first.store) × ((entries : List Entry) → Stores entries first.store.now → AreGroups entries items (string_bytes groups.out)) };
 
-    fn take(&mut self, item: LeftHandSide) -> Result<(), AllocError> {
-        self.take_over(item)?;
-        Ok(())
-    }
-
-    fn take_over(
-        &mut self,
-        mut item: LeftHandSide,
-    ) -> Result<Option<Arena<Statement>>, AllocError> {
+    fn take(&mut self, mut item: LeftHandSide) -> Result<Option<Arena<Statement>>, AllocError> {
         match self.append(&item) {
             Ok(()) => Ok(item.take_statements()),
             // A well-formed item has no bad id, so the error is out of memory.

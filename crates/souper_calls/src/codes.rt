@@ -27,12 +27,7 @@ struct Codes {
 impl<T: WholeItem + Encode + Drop> Sink<T> for Codes {
     ghost holds = { λ first codes items. codes.code.items ≡ code_of_items items };
 
-    fn take(&mut self, item: T) -> Result<(), AllocError> {
-        Sink::<T>::take_over(self, item)?;
-        Ok(())
-    }
-
-    fn take_over(&mut self, mut item: T) -> Result<Option<Arena<Statement>>, AllocError> {
+    fn take(&mut self, mut item: T) -> Result<Option<Arena<Statement>>, AllocError> {
         item.encode(&mut self.code)?;
         Ok(item.take_statements())
     }

@@ -23,6 +23,7 @@ ghost use Rattle.souper_calls.specs.Failures.{outcome_of, short_outcome, shown_o
 ghost use Rattle.souper_calls.specs.Answers.{WritesAnswerGroups, WritesRefusalOfOne, IsNoTextOfOne, IsShortFind};
 ghost use Rattle.souper_calls.specs.FlawAnswers.{answer_without, IsFlawAnswer};
 ghost use Rattle.souper_calls.specs.Hints.{WritesHint, IsShortHint};
+ghost use Rattle.souper_width_calls.specs.Answers.{widths_without, IsWidthsAnswer};
 
 use crate::answers::{answers_to, store_of};
 use crate::codes::code;
@@ -39,6 +40,8 @@ use crate::texts::{outcome_of_stop, texts_of_code};
 use souper_format::command::Kind;
 use souper_format::same::same;
 use souper_ir::ast::{LeftHandSide, Replacement, RightHandSide};
+pub use souper_width_calls::SouperWidths;
+use souper_width_calls::widths_of_code;
 use std::alloc::Global;
 
 // 1,000,000 times the major number, 1,000 times the minor number, and the patch number.
@@ -200,6 +203,20 @@ pub fn souper_flaw(alloc: Global, kind: u32, code: &[u8]) -> SouperFlaw
         Some(Kind::Rhs) => flaw_of_code::<RightHandSide>(alloc, code),
         Some(Kind::Rep) => flaw_of_code::<Replacement>(alloc, code),
         None => SouperFlaw::without(NO_KIND),
+    }
+}
+
+/// Writes the widths of the item whose code `code` begins with to the beginning of `out`: of the result of each statement, and then of its
+/// operands; or returns why it has none, and where.
+pub fn souper_widths(alloc: Global, kind: u32, code: &[u8], out: &mut [u32]) -> SouperWidths
+    ensures no_kind { type_of_number kind ≡ None → (result ≡ widths_without 2) × (out.new ≡ out.old) }
+    ensures answered { IsKind kind → OfType kind (λ k. IsWidthsAnswer k code.now out.old result out.new) }
+{
+    match read_kind(kind) {
+        Some(Kind::Lhs) => widths_of_code::<LeftHandSide>(alloc, code, out),
+        Some(Kind::Rhs) => widths_of_code::<RightHandSide>(alloc, code, out),
+        Some(Kind::Rep) => widths_of_code::<Replacement>(alloc, code, out),
+        None => SouperWidths::without(NO_KIND),
     }
 }
 

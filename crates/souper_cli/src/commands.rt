@@ -35,6 +35,16 @@ fn json_arg(json: Arg<'_>) -> Result<Arg<'_>, AllocError> {
     json.alias("jsonl")?.conflicts_with("null")
 }
 
+fn widths_arg<'a>(alloc: Global) -> Result<Arg<'a>, AllocError> {
+    arg!(in alloc; --widths "Write all widths; an item that has none is an error").conflicts_with(
+        "complete",
+    )
+}
+
+fn complete_arg<'a>(alloc: Global) -> Arg<'a> {
+    arg!(in alloc; --complete "The same, with each constant as a signed number")
+}
+
 // A command that writes records, with their options, without its arguments.
 fn writer<'a>(alloc: Global, name: &'a str) -> Result<Command<'a>, AllocError> {
     Command::new(alloc, name)
@@ -51,6 +61,8 @@ fn writer<'a>(alloc: Global, name: &'a str) -> Result<Command<'a>, AllocError> {
 fn format<'a>(alloc: Global) -> Result<Command<'a>, AllocError> {
     let others = [
         "lhs-key",
+        "widths",
+        "complete",
         "null",
         "null-data",
         "key",
@@ -59,6 +71,8 @@ fn format<'a>(alloc: Global) -> Result<Command<'a>, AllocError> {
         "line-buffered",
     ];
     let json = arg!(in alloc; --json "Write a line of JSON for each item and each parse error");
+    let lhs_key =
+        arg!(in alloc; --"lhs-key" "Write the key of the left-hand side of each replacement too");
     let write = arg!(in alloc; -w --write "Rewrite each file; comments and unused values are lost");
     let force = arg!(in alloc; --force "Rewrite write-protected files too");
     writer(alloc, "format")?
@@ -67,8 +81,12 @@ fn format<'a>(alloc: Global) -> Result<Command<'a>, AllocError> {
         .visible_alias("each")?
         .arg(json_arg(json)?)?
         .arg(
-            arg!(in alloc; --"lhs-key" "Write the key of the left-hand side of each replacement too"),
+            lhs_key
+                .conflicts_with("widths")?
+                .conflicts_with("complete")?,
         )?
+        .arg(widths_arg(alloc)?)?
+        .arg(complete_arg(alloc))?
         .arg(write.conflicts_with_all(&others)?)?
         .arg(force.requires_arg("write")?)?
         .arg(kind_arg(alloc))?
@@ -82,6 +100,8 @@ fn uniq<'a>(alloc: Global) -> Result<Command<'a>, AllocError> {
     writer(alloc, "uniq")?
         .about("Writes the record of the first item of each graph in all files")
         .after_help("Example: souper_items uniq --rename --count lhs *.lhs")
+        .arg(widths_arg(alloc)?)?
+        .arg(complete_arg(alloc))?
         .arg(count.conflicts_with("line-buffered")?)?
         .arg(repeated.conflicts_with("line-buffered")?)?
         .arg(kind_arg(alloc))?
@@ -107,11 +127,13 @@ fn find<'a>(alloc: Global) -> Result<Command<'a>, AllocError> {
 
 fn check<'a>(alloc: Global) -> Result<Command<'a>, AllocError> {
     let list = arg!(in alloc; -l --list "Write only the names of files that are not canonical");
+    let widths = arg!(in alloc; --widths "Say instead which item has no widths");
     Command::new(alloc, "check")
         .about("Says which files are not canonical, and the first line that is not")
         .after_help("Example: souper_items check --diff lhs *.lhs | patch -p1")
         .arg(arg!(in alloc; --diff "Write what would change, as a unified diff"))?
         .arg(list.conflicts_with("diff")?)?
+        .arg(widths.conflicts_with("diff")?.conflicts_with("list")?)?
         .arg(color_arg(alloc))?
         .arg(quiet_arg(alloc))?
         .arg(kind_arg(alloc))?

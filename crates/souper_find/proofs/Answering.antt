@@ -1,5 +1,5 @@
 -- What is written for left-hand sides, one after the other.
-use Rattle.std.proofs.Common.{◌≡◌, ℕ, ◌+◌, ◌<◌, ◌≤◌, Bool, true, false, List, [], ◌∷◌, ◌++◌, length, map, take, get_or, Vec, Global, refl, sym, ap, ◌∙◌, subst, arith, append_assoc, append-nil}
+use Rattle.std.proofs.Common.{◌≡◌, ℕ, ◌+◌, ◌<◌, ◌≤◌, Bool, true, false, List, [], ◌∷◌, ◌++◌, length, map, take, get_or, Vec, Global, refl, sym, ap, ◌∙◌, subst, arith}
 use Rattle.std.specs.Prelude.{Result, IfOk, String, filter, if◌then◌else◌}
 use Rattle.std.specs.List.{AllByRecursion}
 use Rattle.std.specs.String.{string_bytes}
@@ -11,13 +11,11 @@ use Rattle.souper_lookup.specs.Instance.{AreInstances}
 use Rattle.souper_graph.specs.Renaming.{renamed}
 use Rattle.souper_lookup.specs.declared.store.Store.{Store}
 use Rattle.souper_lookup.specs.Stored.{Entry, key_of_left, has_left_key, answers, replacements_of, Stores}
-use Rattle.souper_records.specs.Outcomes.{Outcome}
-use Rattle.souper_find.specs.declared.search.Choice.{Choice}
 use Rattle.souper_find.specs.declared.search.Choice.TheVariants.{All, First, Unanswered}
 use Rattle.souper_records.specs.declared.output.Output.{Output}
 use Rattle.souper_records.specs.Outputs.{renames}
 use Rattle.souper_records.specs.Uniques.{text_by}
-use Rattle.souper_find.specs.Answers.{if_unanswered, HaveTexts, AreTexts, AreAllTexts, groups_text, AreAnswers}
+use Rattle.souper_find.specs.Answers.{if_unanswered, HaveTexts, AreTexts}
 
 pub instances-well : (q : Item) (xs ys : List Item) → AreInstances q xs ys → AllByRecursion WellFormed ys
 instances-well q [] [] h = tt
@@ -64,19 +62,3 @@ module _ {E : Type 0} (store : Store) (rename : Bool) (key : List ℕ) (r : Resu
     are-unanswered f =
         let items = if_unanswered q (answers q entries) in
         IfOk-weaker r _ _ (λ texts e. (items, refl, e ∙ ap (λ (b : Bool). map (text_by b) items) as_output)) (subst Unfound kept f is entries s)
-
-module _ (c : Choice) (output : Output) (entries : List Entry) where
-  -- one left-hand side more
-  pub all_texts_more : (qs : List Item) (groups : List (List (List ℕ))) (q : Item) (texts : List (List ℕ)) → AreAllTexts c output entries qs groups → AreTexts c output entries q texts → AreAllTexts c output entries (qs ++ q ∷ []) (groups ++ texts ∷ [])
-  all_texts_more [] [] q texts h is = (is, tt)
-  all_texts_more [] (g ∷ groups) q texts h is = absurd h
-  all_texts_more (p ∷ qs) [] q texts h is = absurd h
-  all_texts_more (p ∷ qs) (g ∷ groups) q texts h is = (h.0, all_texts_more qs groups q texts h.1 is)
-
-  -- one part more
-  pub answers_more : (name : List ℕ) (os : List Outcome) (o : Outcome) (text : List ℕ) (groups : List (List (List ℕ))) → AreAnswers c output entries name os text → AreAllTexts c output entries o.items groups
-      → AreAnswers c output entries name (os ++ o ∷ []) (text ++ groups_text output name o.starts o.refusal groups)
-  answers_more name [] o text groups none all = rw none (groups, [], all, sym (append-nil (groups_text output name o.starts o.refusal groups)), refl)
-  answers_more name (p ∷ os) o text groups (g, rest, are, is, more) all =
-      let last = groups_text output name o.starts o.refusal groups in
-      (g, rest ++ last, are, ap (λ (x : List ℕ). x ++ last) is ∙ append_assoc (groups_text output name p.starts p.refusal g) rest last, answers_more name os o rest groups more all)

@@ -8,10 +8,9 @@ use Rattle.souper_errors.specs.declared.error.ParseError.{ParseError}
 use Rattle.souper_errors.specs.declared.error.ParseErrorKind.TheVariants.{Parse}
 use Rattle.souper_errors.specs.Errors.{kind_of}
 use Rattle.souper_stream.specs.Reading.{IsStreamTaken, IsStreamRefused}
-use Rattle.souper_format.specs.Reporting.{Reported}
-use Rattle.souper_format.specs.Streams.{Stream, stream}
-use Rattle.souper_format.specs.Watching.{has_failed}
-use Rattle.souper_format.specs.declared.watched.Watched.{Watched}
+use Rattle.souper_watched.specs.Streams.{Reported, Stream, stream}
+use Rattle.souper_watched.specs.Watching.{has_failed}
+use Rattle.souper_watched.specs.declared.Watched.{Watched}
 use Rattle.souper_lookup.specs.declared.store.Store.{Store}
 use Rattle.souper_lookup.specs.Stored.{Entry, AreAdded, Stores}
 use Rattle.souper_stream.specs.Parts.{HasParts}

@@ -1,4 +1,3 @@
 pub mod Answers
 pub mod Keyed
-pub mod Views
 pub mod Runs

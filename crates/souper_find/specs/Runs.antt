@@ -1,4 +1,4 @@
--- Definitions. What each status of a run says of the store, of the stream and of the writers.
+-- Definitions. What each status of a run that fills a store says of the store, of the stream and of the reports.
 use Rattle.std.specs.Prelude.{◌≡◌, ◌⊎◌, ℕ, ◌+◌, ◌^◌, ◌<◌, ◌≤◌, Bool, false, List, ◌++◌, length, Option, Some}
 use Rattle.std.specs.Io.KnownBytes.{Consumes}
 use Rattle.souper_graph.specs.Values.{Item}
@@ -8,19 +8,13 @@ use Rattle.souper_errors.specs.Errors.{HasLocation, IsRefusalAt, at_end_of}
 use Rattle.souper_ir.specs.Stopping.{TextStops}
 use Rattle.souper_stream.specs.Parts.{EndsAfter}
 use Rattle.souper_stream.specs.Reading.{AreAll, NeverSpells}
-use Rattle.souper_format.specs.Reporting.{Reported}
-use Rattle.souper_format.specs.Streams.{Stream, IsGiven, IsGivenNothing}
+use Rattle.souper_watched.specs.Streams.{Stream, IsGiven, IsGivenNothing, Reported}
 use Rattle.souper_lookup.specs.declared.store.Store.{Store}
 use Rattle.souper_lookup.specs.Stored.{Entry, AreAdded, Stores}
 use Rattle.souper_records.specs.Canonical.{IsWhole}
-use Rattle.souper_records.specs.Outcomes.{InputStream}
 use Rattle.souper_records.specs.declared.stop.ReadFault.{ReadFault}
 use Rattle.souper_records.specs.Reports.{AreRefusalLines, hint_line, ReportedReadFault, ReportedMemory}
-use Rattle.souper_records.specs.Runs.{OnStatus, IsRun}
-use Rattle.souper_find.specs.declared.search.Choice.{Choice}
-use Rattle.souper_records.specs.declared.output.Output.{Output}
-use Rattle.souper_find.specs.Answers.{WritesAnswers}
-use Rattle.souper_find.specs.Keyed.{WritesKeyed}
+use Rattle.souper_records.specs.Runs.{OnStatus}
 
 -- the whole stream spells replacements, and they were added to a store that had these entries
 pub record IsFilled (entries : List Entry) (before after : Option (List ℕ)) (store : Store) : Type 0 where
@@ -64,11 +58,3 @@ IsFillRun entries name before after store err status = OnStatus status
     (IsUnfilled name before after err)
     (((fault : ReadFault) × ReportedReadFault name err fault) ⊎ ReportedMemory err)
     ⊥
-
--- writing the answers for the left-hand sides of a stream
-abbrev pub IsFindRun : Choice → Output → List Entry → InputStream → Option (List ℕ) → Stream → Stream → ℕ → Type 0
-IsFindRun c output entries r after out err status = IsRun r after (WritesAnswers c output entries r.name out) (WritesAnswers c output entries r.name out) out err status
-
--- writing the replacements of a stream with the keys of their left-hand sides
-abbrev pub IsKeyedRun : Output → InputStream → Option (List ℕ) → Stream → Stream → ℕ → Type 0
-IsKeyedRun output r after out err status = IsRun r after (WritesKeyed output r.name out) (WritesKeyed output r.name out) out err status

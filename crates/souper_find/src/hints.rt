@@ -1,13 +1,13 @@
 //! The hint for a store that is refused.
 ghost use Rattle.std.specs.Prelude.{◌≡◌, ℕ, List, true, Some, IfSome, string_bytes};
-ghost use Rattle.souper_format.specs.Streams.{stream};
-ghost use Rattle.souper_format.specs.Watching.{has_failed};
+ghost use Rattle.souper_watched.specs.Streams.{stream};
+ghost use Rattle.souper_watched.specs.Watching.{has_failed};
 ghost use Rattle.souper_records.specs.Reports.{hint_line};
 ghost use Rattle.souper_find.specs.Runs.{ReportedHint};
 
-use souper_format::watched::Watched;
 use souper_hint::{Kind, hint_of};
 use souper_ir::parse::{ParseError, parse_replacements_str};
+use souper_watched::Watched;
 use std::alloc::Global;
 use std::io::Write;
 

@@ -3,7 +3,6 @@
 //! The program `souper_items` calls the functions of [`run`].
 #![tactic(auto)]
 
-pub mod answers;
 mod hints;
 pub mod keyed;
 pub mod run;

@@ -1,4 +1,4 @@
-//! The texts that are written for a left-hand side.
+//! The texts that are written for a left-hand side: its row.
 
 ghost use Rattle.std.specs.Prelude.{◌≡◌, List, map, take, IfOk};
 ghost use Rattle.std.specs.List.{AllByRecursion};
@@ -8,7 +8,7 @@ ghost use Rattle.souper_graph.specs.WellFormed.{WellFormed};
 ghost use Rattle.souper_graph.specs.Renaming.{renamed};
 ghost use Rattle.souper_lookup.specs.Stored.{Entry, key_of_left, answers, Stores};
 ghost use Rattle.souper_records.specs.Uniques.{text_by};
-ghost use Rattle.souper_find.specs.Answers.{if_unanswered, HaveTexts, AreTexts};
+ghost use Rattle.souper_find.specs.Answers.{if_unanswered, HaveTexts, AreTexts, view_texts};
 
 use crate::search::{Choice, Search};
 use souper_ir::ast::{LeftHandSide, Replacement};
@@ -16,8 +16,10 @@ use souper_ir::stringify::TextError;
 use souper_lookup::find::find_by_key;
 use souper_lookup::keys::key_in_place;
 use souper_lookup::store::Store;
+use souper_records::output::Output;
 use souper_records::records::push_last_text;
-use std::alloc::Global;
+use souper_records::rows::Rows;
+use std::alloc::{AllocError, Global};
 
 // The canonical text of a replacement; with `rename` the text with names by its printed order.
 fn text_of(rename: bool, item: &Replacement) -> Result<String, TextError>
@@ -79,8 +81,8 @@ fn unanswered_texts(
     Ok(texts)
 }
 
-/// The texts of what is written for the left-hand side, which is dropped then. `text` is for one of them.
-pub(crate) fn texts_for(
+// The texts of what is written for the left-hand side, which is dropped then. `text` is for one of them.
+fn texts_for(
     alloc: Global,
     search: Search<'_>,
     query: &mut LeftHandSide,
@@ -96,5 +98,28 @@ pub(crate) fn texts_for(
         Choice::All => found_texts(alloc, rename, store, query, &key, store.stored().len()),
         Choice::First => found_texts(alloc, rename, store, query, &key, 1),
         Choice::Unanswered => unanswered_texts(alloc, rename, store, query, &key, text),
+    }
+}
+
+impl Rows<LeftHandSide, Vec<String>> for Search<'_> {
+    ghost output_of = { λ search. search.output };
+
+    ghost makes = { λ search query texts. (entries : List Entry) → Stores entries search.store.now → AreTexts search.choice search.output entries query (view_texts texts) };
+
+    fn output(&self) -> Output {
+        self.output
+    }
+
+    fn make(
+        &self,
+        alloc: Global,
+        query: &mut LeftHandSide,
+        text: &mut String,
+    ) -> Result<Vec<String>, AllocError> {
+        match texts_for(alloc, *self, query, text) {
+            Ok(texts) => Ok(texts),
+            // A well-formed item has no bad id, so the error is out of memory.
+            Err(_) => Err(AllocError),
+        }
     }
 }

@@ -1,7 +1,6 @@
 -- Two lists, pair by pair.
-use Rattle.std.proofs.Common.{◌≡◌, ℕ, zero, suc, ◌+◌, ◌<◌, length, map, take, get_or, List, [], ◌∷◌, sym, ap, ◌∙◌, subst, arith}
+use Rattle.std.proofs.Common.{◌≡◌, ℕ, zero, suc, ◌+◌, ◌<◌, length, map, take, get_or, List, [], ◌∷◌, sym, subst, arith}
 use Rattle.std.specs.List.{AllZip}
-use Rattle.std.proofs.lemmas.List.{get_or-map}
 
 -- one related pair more
 pub related_more : {A B : Type 0} (R : B → B → Type 0) (f : A → B) (xs ys : List A) (n m : ℕ) (x y : A)

@@ -8,46 +8,50 @@ use Rattle.souper_ir.specs.Answers.{IsStrError}
 use Rattle.souper_errors.specs.declared.error.ParseError.{ParseError}
 use Rattle.souper_errors.specs.declared.error.ParseErrorKind.{ParseErrorKind}
 use Rattle.souper_errors.specs.declared.error.ParseErrorKind.TheVariants.{Io, Parse, Memory}
-use Rattle.souper_format.specs.Streams.{Stream, IsGiven, IsGivenNothing}
-use Rattle.souper_format.specs.Reading.{ReadAll}
-use Rattle.souper_format.specs.Reporting.{ReportedDisplayLine, ReportedIoError, StoppedByMemory, ErrorReported}
-use Rattle.souper_format.specs.Runs.{Formats, ReportedParseError, IsFormatRun, IsKnownRun}
+use Rattle.souper_watched.specs.Streams.{Stream, IsGiven, IsGivenNothing, Reported}
+use Rattle.souper_format.specs.Reporting.{IsDisplayLine, ReportedOutOfMemory, ReportedIoError, StoppedByMemory, ErrorReported}
+use Rattle.souper_format.specs.Runs.{ReadAll, Formats, ReportedParseError, OnFmtStatus, IsFormatRun, IsKnownRun}
 
 -- a parse error at an offset of the source, as the parser returns it
-abbrev pub IsRefusal : ItemType → Option (List ℕ) → List ℕ → ParseError → Type 0
+abbrev IsRefusal : ItemType → Option (List ℕ) → List ℕ → ParseError → Type 0
 IsRefusal k file source e = (offset : ℕ) × (offset_of e ≡ Some offset) × (offset ≤ length source) × SpellsNone k source
     × ShowsPlace file source offset e × HasLocation source e
 
-pub reported_refusal : (k : ItemType) (file : Option (List ℕ)) (source : List ℕ) (err : Stream) (e : ParseError)
-    → IsRefusal k file source e → ReportedDisplayLine err e → ReportedParseError file source err
+reported_refusal : (k : ItemType) (file : Option (List ℕ)) (source : List ℕ) (err : Stream) (e : ParseError)
+    → IsRefusal k file source e → Reported err (IsDisplayLine e) → ReportedParseError file source err
 reported_refusal k file source err e (offset, at, within, none, p, located) reported works =
     let (line, (bytes, are_shown, is_line), given) = reported works in
     let same = subst (λ o. IfSome o (λ s. bytes ≡ s)) p.shown_is are_shown in
     (offset, _, within, (p.line, p.column, (p.message, p.text, p.is_place, refl)), subst (IsGiven err) (is_line ∙ ap (λ (s : List ℕ). s ++ 10 ∷ []) same) given)
 
-stopped : (k : ItemType) (input out err : Stream) (status : ℕ)
-    → IsGivenNothing out → StoppedByMemory err status → IsFormatRun k input out err status
-stopped k input out err status nothing reported =
-    subst (IsFormatRun k input out err) (sym reported.0) (inr reported.1, λ works. nothing)
+-- other facts for the statuses
+pub status_mapped : (status : ℕ) (A B C P Q R : Type 0) → (A → P) → (B → Q) → (C → R) → OnFmtStatus status A B C → OnFmtStatus status P Q R
+status_mapped zero A B C P Q R f g h is = f is
+status_mapped (suc zero) A B C P Q R f g h is = g is
+status_mapped (suc (suc zero)) A B C P Q R f g h is = absurd is
+status_mapped (suc (suc (suc zero))) A B C P Q R f g h is = h is
+status_mapped (suc (suc (suc (suc n)))) A B C P Q R f g h is = absurd is
 
-status_of_kind : (k : ItemType) (input out err : Stream) (source : List ℕ) (e : ParseError) (status : ℕ) (kind : ParseErrorKind)
-    → ReadAll input source → IsUtf8 source → IsGivenNothing out
-    → OnKind kind ⊥ (IsRefusal k None source e) (Unit {0})
-    → OnKind kind ((status ≡ 3) × ReportedIoError err) (((status ≡ 1) × ReportedDisplayLine err e) ⊎ StoppedByMemory err status) (StoppedByMemory err status)
-    → IsFormatRun k input out err status
-status_of_kind k input out err source e status Io read text nothing fault reported = absurd fault
-status_of_kind k input out err source e status Parse read text nothing refusal (inl reported) =
-    subst (IsFormatRun k input out err) (sym reported.0)
-    ((source, read, text, refusal.3, reported_refusal k None source err e refusal reported.1), nothing)
-status_of_kind k input out err source e status Parse read text nothing refusal (inr reported) = stopped k input out err status nothing reported
-status_of_kind k input out err source e status Memory read text nothing fault reported = stopped k input out err status nothing reported
+-- the error of a text was reported
+pub of_text : (k : ItemType) (file : Option (List ℕ)) (source : List ℕ) (err : Stream) (e : ParseError) (status : ℕ)
+    → IsStrError k file source e → ErrorReported err status e
+    → OnFmtStatus status ⊥ (SpellsNone k source × ReportedParseError file source err) (ReportedOutOfMemory err)
+of_text k file source err e status fault reported = under (kind_of e) fault reported
+  where
+    under : (kind : ParseErrorKind) → OnKind kind ⊥ (IsRefusal k file source e) (Unit {0})
+        → OnKind kind ((status ≡ 3) × ReportedIoError err) (((status ≡ 1) × Reported err (IsDisplayLine e)) ⊎ StoppedByMemory err status) (StoppedByMemory err status)
+        → OnFmtStatus status ⊥ (SpellsNone k source × ReportedParseError file source err) (ReportedOutOfMemory err)
+    under Io fault reported = absurd fault
+    under Parse refusal (inl (one, line)) = rw one (refusal.3, reported_refusal k file source err e refusal line)
+    under Parse refusal (inr (three, memory)) = rw three memory
+    under Memory fault (three, memory) = rw three memory
 
 -- an error that is reported gives one of the statuses
 pub status_of_error : (k : ItemType) (input out err : Stream) (source : List ℕ) (e : ParseError) (status : ℕ)
     → ReadAll input source → IsUtf8 source → IsGivenNothing out → IsStrError k None source e → ErrorReported err status e
     → IsFormatRun k input out err status
 status_of_error k input out err source e status read text nothing fault reported =
-    status_of_kind k input out err source e status (kind_of e) read text nothing fault reported
+    status_mapped status _ _ _ _ _ _ (λ none. absurd none) (λ is. ((source, read, text, is.0, is.1), nothing)) (λ memory. (inr memory, λ works. nothing)) (of_text k None source err e status fault reported)
 
 -- if the reader's bytes are known, what holds of all that was read holds of them
 of_known : (P : List ℕ → Type 0) (before after : Option (List ℕ)) (source : List ℕ)

@@ -1,8 +1,8 @@
 -- Definitions. The lines that report an error.
-use Rattle.std.specs.Prelude.{◌≡◌, ℕ, List, ◌++◌, false, codes, Option, IfSome, ◌⊎◌}
+use Rattle.std.specs.Prelude.{◌≡◌, ℕ, List, ◌++◌, false, codes, ◌⊎◌}
 use Rattle.souper_errors.specs.Errors.{kind_of, shown_error, OnKind}
 use Rattle.souper_errors.specs.declared.error.ParseError.{ParseError}
-use Rattle.souper_format.specs.Streams.{Stream, IsGiven}
+use Rattle.souper_watched.specs.Streams.{Stream, IsGiven, IsLineOf, Reported}
 
 -- the line for out of memory
 abbrev pub memory_line : List ℕ
@@ -20,21 +20,9 @@ fault_line shown = codes "IO error: " ++ shown ++ codes "\n"
 abbrev pub ReportedIoError : Stream → Type 0
 ReportedIoError err = err.failed ≡ false → ((shown : List ℕ) × IsGiven err (fault_line shown)) ⊎ IsGiven err memory_line
 
--- a line of text: this text, if it is known
-abbrev pub IsLineOf : Option (List ℕ) → List ℕ → Type 0
-IsLineOf known line = (shown : List ℕ) × IfSome known (λ text. shown ≡ text) × (line ≡ shown ++ codes "\n")
-
--- unless the writer has failed, a line with the property P was written to it
-abbrev pub Reported : Stream → (List ℕ → Type 0) → Type 0
-Reported err P = err.failed ≡ false → (line : List ℕ) × P line × IsGiven err line
-
 -- the line of the error's text
 abbrev pub IsDisplayLine : ParseError → List ℕ → Type 0
 IsDisplayLine e line = IsLineOf (shown_error e) line
-
--- the line of the error was reported
-abbrev pub ReportedDisplayLine : Stream → ParseError → Type 0
-ReportedDisplayLine err e = Reported err (IsDisplayLine e)
 
 -- the status is 3, and out of memory was reported
 abbrev pub StoppedByMemory : Stream → ℕ → Type 0
@@ -44,5 +32,5 @@ StoppedByMemory err status = (status ≡ 3) × ReportedOutOfMemory err
 abbrev pub ErrorReported : Stream → ℕ → ParseError → Type 0
 ErrorReported err status e = OnKind (kind_of e)
     ((status ≡ 3) × ReportedIoError err)
-    (((status ≡ 1) × ReportedDisplayLine err e) ⊎ StoppedByMemory err status)
+    (((status ≡ 1) × Reported err (IsDisplayLine e)) ⊎ StoppedByMemory err status)
     (StoppedByMemory err status)

@@ -1,12 +1,28 @@
 -- Definitions. What each status of a run says of the reader, of the writers and of what was read.
 use Rattle.std.specs.Prelude.{◌≡◌, ℕ, zero, suc, ◌≤◌, List, ◌++◌, true, false, codes, length, Option, None, IfSome, ◌⊎◌}
 use Rattle.std.specs.Str.{IsUtf8}
+use Rattle.std.specs.Io.KnownBytes.{Consumes, IsAtEnd}
 use Rattle.souper_graph.specs.Syntax.Spelling.{ItemType, SpellsNone}
 use Rattle.souper_errors.specs.Places.{IsRefusalText}
 use Rattle.souper_format.specs.Formatted.{IsFormatted}
-use Rattle.souper_format.specs.Streams.{Stream, IsGiven, IsGivenNothing}
-use Rattle.souper_format.specs.Reading.{ReadAll, ReadNoText}
+use Rattle.souper_watched.specs.Streams.{Stream, IsGiven, IsGivenNothing}
+use Rattle.souper_format.specs.declared.run.ReadFault.{ReadFault}
+use Rattle.souper_format.specs.declared.run.ReadFault.TheVariants.{Failed, NotText, OutOfMemory}
 use Rattle.souper_format.specs.Reporting.{ReportedOutOfMemory, ReportedIoError}
+
+-- the reader has not failed and has ended, and the bytes are all that was read of it
+abbrev pub ReadAll : Stream → List ℕ → Type 0
+ReadAll input bytes = (input.failed ≡ false) × (input.ended ≡ true) × Consumes input.before input.after bytes × IsAtEnd input.after
+
+-- all that was read is not UTF-8
+abbrev pub ReadNoText : Stream → Type 0
+ReadNoText input = (bytes : List ℕ) × ReadAll input bytes × ¬ (IsUtf8 bytes)
+
+-- what each fault says of the reader
+abbrev pub FaultMeans : Stream → ReadFault → Type 0
+FaultMeans input (Failed e) = input.failed ≡ true
+FaultMeans input NotText = ReadNoText input
+FaultMeans input OutOfMemory = Unit {0}
 
 -- the formatted source was written to `out`, and nothing else
 abbrev pub Formats : ItemType → List ℕ → Stream → Type 0

@@ -2,8 +2,8 @@
 ghost use Rattle.std.specs.Prelude.{◌≡◌, false};
 ghost use Rattle.souper_format.specs.Commands.{command_of};
 ghost use Rattle.souper_format.specs.Dispatch.{IsCommandRun, IsKnownCommandRun};
-ghost use Rattle.souper_format.specs.Streams.{stream};
-ghost use Rattle.souper_format.specs.Watching.{watched_inner, has_failed, has_ended};
+ghost use Rattle.souper_watched.specs.Streams.{stream};
+ghost use Rattle.souper_watched.specs.Watching.{watched_inner, has_failed, has_ended};
 
 use crate::command::{Command, read_command};
 use crate::files::TextFiles;

@@ -1,6 +1,6 @@
 //! The lines that report an error, each to a stream that may fail.
 ghost use Rattle.std.specs.Prelude.{◌≡◌, string_bytes, IfOk, ℕ, List};
-ghost use Rattle.souper_format.specs.Streams.{stream};
+ghost use Rattle.souper_watched.specs.Streams.{stream};
 ghost use Rattle.souper_format.specs.Reporting.{fault_line, IsDisplayLine, ReportedOutOfMemory, ReportedIoError, ErrorReported};
 
 use crate::watched::Watched;

@@ -4,8 +4,7 @@ ghost use Rattle.std.specs.Prelude.{◌↔◌, map, IfOk, IsTrue};
 ghost use Rattle.std.specs.List.{AllByRecursion, AllZip};
 ghost use Rattle.souper_graph.specs.WellFormed.{WellFormed};
 ghost use Rattle.souper_graph.specs.Sameness.{SameGraph};
-ghost use Rattle.souper_format.specs.Kinds.{view_items};
-ghost use Rattle.souper_format.specs.Same.{SameItems};
+ghost use Rattle.souper_format.specs.Kinds.{view_items, SameItems};
 
 use crate::items::Items;
 use crate::texts::are_same_graph;

@@ -1,11 +1,10 @@
 //! Whether two files have pairwise the same graphs.
-ghost use Rattle.std.specs.Prelude.{◌≡◌, IfOk, IfErr};
+ghost use Rattle.std.specs.Prelude.{◌≡◌, ℕ, List, IfOk, IfErr};
 ghost use Rattle.std.specs.List.{AllByRecursion};
 ghost use Rattle.souper_graph.specs.WellFormed.{WellFormed};
-ghost use Rattle.souper_format.specs.Kinds.{item_type_of, kind_of_items, view_items};
-ghost use Rattle.souper_format.specs.Streams.{stream};
-ghost use Rattle.souper_format.specs.Same.{SameItems};
-ghost use Rattle.souper_format.specs.SameRuns.{FileRead, ReadSpells, ReadError, IsSameRun, IsFilesRun, IsComparison};
+ghost use Rattle.souper_format.specs.Kinds.{item_type_of, kind_of_items, view_items, SameItems};
+ghost use Rattle.souper_watched.specs.Streams.{stream};
+ghost use Rattle.souper_format.specs.SameRuns.{FileRead, ReadSpells, ReadError, IsFilesRun, IsComparison};
 
 use crate::command::Kind;
 use crate::files::TextFiles;
@@ -116,7 +115,7 @@ pub fn same_run<R: Files + AllocGlobal, W: Write, E: Write>(
     out: &mut Watched<W>,
     err: &mut Watched<E>,
 ) -> u8
-    ensures { (first : FileRead) × (second : FileRead) × IsSameRun (item_type_of kind) a.now b.now first second
+    ensures { IsFilesRun (item_type_of kind) (λ (path : List ℕ) (read : FileRead). Unit {0}) a.now b.now
         (stream W.contents out.old out.new) (stream E.contents err.old err.new) result }
 {
     compare_files(rt, alloc, kind, (a, b), out, err)

@@ -49,28 +49,14 @@ struct Texts {
     item: String,
 }
 
-impl Texts {
-    // An empty buffer takes the text of an item at once, and an error leaves `text` as it was.
-    fn append<T: Item>(&mut self, item: &T) -> Result<(), AllocError>
-        requires { WellFormed (T.view item.now) }
-        ensures { OnOk result (string_bytes self.new.text ≡ string_bytes self.old.text ++ text_with_newline (T.view item.now)) }
-    {
-        self.item.clear();
-        append_item(item, &mut self.item)?;
-        self.text.push_str(&self.item)
-    }
-}
-
 impl<T: WholeItem + Drop> Sink<T> for Texts {
     ghost holds = { λ first texts items. string_bytes texts.text ≡ texts_of items };
 
-    fn take(&mut self, item: T) -> Result<(), AllocError> {
-        Sink::<T>::take_over(self, item)?;
-        Ok(())
-    }
-
-    fn take_over(&mut self, mut item: T) -> Result<Option<Arena<Statement>>, AllocError> {
-        self.append(&item)?;
+    fn take(&mut self, mut item: T) -> Result<Option<Arena<Statement>>, AllocError> {
+        // An empty buffer takes the text of an item at once.
+        self.item.clear();
+        append_item(&item, &mut self.item)?;
+        self.text.push_str(&self.item)?;
         Ok(item.take_statements())
     }
 }

@@ -1,28 +1,18 @@
 //! Hints: what the writer of an invalid text may have meant, and for who gave another kind than a file has.
 
-use souper_format::command::Kind;
-use souper_format::watched::Watched;
-use souper_hint::hint_of;
-use souper_ir::ast::{LeftHandSide, Replacement, RightHandSide};
+use souper_hint::{Kind, hint_of};
+use souper_ir::ast::{Arena, LeftHandSide, Replacement, RightHandSide, Statement};
 use souper_ir::parse::{ParseError, Sink, WholeItem};
 use souper_stream::{ChunkSink, ItemReader, StreamItem};
+use souper_watched::Watched;
 use std::alloc::{AllocError, Global};
 use std::fs::File;
 use std::io::{BufReader, Read, Take, Write};
 
-/// The kind, as hints name it.
-pub(crate) fn hint_kind(kind: Kind) -> souper_hint::Kind {
-    match kind {
-        Kind::Lhs => souper_hint::Kind::Lhs,
-        Kind::Rhs => souper_hint::Kind::Rhs,
-        Kind::Rep => souper_hint::Kind::Rep,
-    }
-}
-
 /// Reports the hint for the error of a whole text, if there is one.
 pub(crate) fn say_hint<E: Write>(
     alloc: Global,
-    hints: Option<souper_hint::Kind>,
+    hints: Option<Kind>,
     text: &str,
     error: &ParseError,
     err: &mut Watched<E>,
@@ -44,9 +34,9 @@ struct Taken {
 impl<T: WholeItem + Drop> Sink<T> for Taken {
     ghost holds = { λ first taken items. Unit {0} };
 
-    fn take(&mut self, _item: T) -> Result<(), AllocError> {
+    fn take(&mut self, _item: T) -> Result<Option<Arena<Statement>>, AllocError> {
         self.some = true;
-        Ok(())
+        Ok(None)
     }
 }
 
@@ -78,12 +68,8 @@ fn begins_with<T: StreamItem + Drop>(rt: &HostRuntime, path: &str) -> bool {
         some: false,
         all: true,
     };
-    let read = parts.read_part::<T, BufReader<Take<File>>, Taken>(
-        rt.alloc(),
-        &mut reader,
-        None,
-        &mut taken,
-    );
+    let (alloc, file, sink) = (rt.alloc(), &mut reader, &mut taken);
+    let read = parts.read_part::<T, BufReader<Take<File>>, Taken>(alloc, file, None, sink);
     read.is_ok() && taken.some && taken.all
 }
 

@@ -1,14 +1,14 @@
 //! What a canonical text leaves out of the text that it is made from: comments, and definitions that nothing uses.
 
-use souper_format::command::Kind;
-use souper_format::watched::Watched;
-use souper_ir::ast::{Item, LeftHandSide, Replacement, RightHandSide};
+use souper_hint::Kind;
+use souper_ir::ast::{Arena, Item, LeftHandSide, Replacement, RightHandSide, Statement};
 use souper_ir::parse::{Sink, WholeItem};
 use souper_records::options::ReadOptions;
 use souper_records::parts::{Part, PartSink, Source, write_parts};
 use souper_records::rejected::Rejected;
 use souper_records::stop::Stop;
 use souper_stream::{ChunkSink, StreamItem};
+use souper_watched::Watched;
 use std::alloc::{AllocError, Global};
 use std::fs::File;
 use std::io;
@@ -49,9 +49,9 @@ fn comments_in(text: &[u8]) -> usize {
 impl<T: WholeItem + Drop> Sink<T> for Losses {
     ghost holds = { λ first losses items. Unit {0} };
 
-    fn take(&mut self, item: T) -> Result<(), AllocError> {
+    fn take(&mut self, item: T) -> Result<Option<Arena<Statement>>, AllocError> {
         self.taken = self.taken.saturating_add(unneeded(&item)?);
-        Ok(())
+        Ok(None)
     }
 }
 
@@ -67,7 +67,6 @@ impl<T: StreamItem + Drop> PartSink<T> for Losses {
 
     fn write_part<W: Write>(
         &mut self,
-        _alloc: Global,
         part: Part<'_>,
         _refusal: Option<Rejected<'_>>,
         _out: &mut Watched<W>,
@@ -94,39 +93,27 @@ fn losses_of<T: StreamItem + Drop, R: BufRead>(alloc: Global, reader: &mut R) ->
     };
     let (mut out, mut err) = (Watched::new(io::sink()), Watched::new(io::sink()));
     let source = Source::new(alloc, options);
-    match write_parts::<T, Losses, R, io::Sink, io::Sink>(
-        alloc,
-        source,
-        &mut losses,
-        reader,
-        &mut out,
-        &mut err,
-    ) {
-        Ok(false) => Some(losses),
-        _ => None,
-    }
+    let (sink, out, err) = (&mut losses, &mut out, &mut err);
+    let parts = write_parts::<T, Losses, R, io::Sink, io::Sink>(
+        alloc, source, sink, reader, out, err,
+    );
+    matches!(parts, Ok(false)).then_some(losses)
 }
 
-// The count and the noun.
-fn counted(alloc: Global, count: usize, one: &str, many: &str) -> Result<String, AllocError> {
-    if count == 1 {
-        format!(in alloc; "1 {one}")
-    } else {
-        format!(in alloc; "{count} {many}")
-    }
+// The end of a noun of so many.
+fn plural(count: usize) -> &'static str {
+    if count == 1 { "" } else { "s" }
 }
 
 fn shown(alloc: Global, losses: &Losses) -> Result<String, AllocError> {
-    let comments = counted(alloc, losses.comments, "comment", "comments")?;
-    let (one, many) = (
-        "definition that nothing uses",
-        "definitions that nothing uses",
-    );
-    let definitions = counted(alloc, losses.definitions, one, many)?;
-    match (losses.comments, losses.definitions) {
-        (_, 0) => Ok(comments),
-        (0, _) => Ok(definitions),
-        _ => format!(in alloc; "{comments} and {definitions}"),
+    let (comments, definitions) = (losses.comments, losses.definitions);
+    let (c, d) = (plural(comments), plural(definitions));
+    match (comments, definitions) {
+        (_, 0) => format!(in alloc; "{comments} comment{c}"),
+        (0, _) => format!(in alloc; "{definitions} definition{d} that nothing uses"),
+        _ => format!(in alloc;
+            "{comments} comment{c} and {definitions} definition{d} that nothing uses"
+        ),
     }
 }
 
@@ -144,11 +131,10 @@ fn say<E: Write>(alloc: Global, name: &str, losses: &Losses, verb: &str, err: &m
 pub(crate) fn say_lost<T: StreamItem + Drop, E: Write>(
     alloc: Global,
     name: &str,
-    source: &str,
+    mut source: &[u8],
     err: &mut Watched<E>,
 ) {
-    let mut reader = source.as_bytes();
-    if let Some(losses) = losses_of::<T, &[u8]>(alloc, &mut reader) {
+    if let Some(losses) = losses_of::<T, &[u8]>(alloc, &mut source) {
         let is_one = losses.comments.saturating_add(losses.definitions) == 1;
         let verb = if is_one {
             "was not written"

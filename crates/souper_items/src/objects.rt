@@ -1,53 +1,38 @@
-//! Ends of runs that write objects: the object of a failed read.
+//! Runs that write rows: by records, or by JSON objects, of which a failed read has one too.
 
 use serde_json::{Value, json};
-use souper_format::watched::Watched;
+use souper_records::objects::number;
+use souper_records::options::ReadOptions;
+use souper_records::output::{Output, Shown};
+use souper_records::rows::{Rows, rows_run, write_rows};
 use souper_records::run::end_parts;
 use souper_records::stop::{ReadFault, Stop};
+use souper_stream::StreamItem;
+use souper_typed::TypedItem;
+use souper_typing::objects::{TypedObjects, write_typed_objects};
+use souper_watched::Watched;
 use std::alloc::{AllocError, Global};
-use std::io::Write;
-
-fn number(n: Option<usize>) -> Value {
-    match n {
-        Some(n) => Value::from(n),
-        None => Value::Null,
-    }
-}
+use std::io;
+use std::io::{BufRead, Write};
 
 // The object of a fault of the stream of this name, with the members of a parse error's.
-fn object(
-    alloc: Global,
-    name: &str,
-    message: &str,
-    line: Option<usize>,
-    offset: Option<usize>,
-) -> Result<Value, AllocError> {
+fn object_of(alloc: Global, name: &str, fault: &ReadFault) -> Result<Value, AllocError> {
+    let (message, line, offset) = match fault {
+        ReadFault::Utf8(bytes) => (
+            String::from_str(alloc, "not UTF-8")?,
+            Some(bytes.line),
+            Some(bytes.offset),
+        ),
+        ReadFault::Io(fault) => (fault.to_string(alloc)?, None, None),
+    };
     json!(in alloc; {
         "column": null,
         "file": name,
         "hint": null,
         "line": number(line),
-        "message": message,
+        "message": message.as_str(),
         "offset": number(offset)
     })
-}
-
-fn object_of(alloc: Global, name: &str, fault: &ReadFault) -> Result<Value, AllocError> {
-    match fault {
-        ReadFault::Utf8(bytes) => {
-            object(
-                alloc,
-                name,
-                "not UTF-8",
-                Some(bytes.line),
-                Some(bytes.offset),
-            )
-        }
-        ReadFault::Io(fault) => {
-            let says = fault.to_string(alloc)?;
-            object(alloc, name, says.as_str(), None, None)
-        }
-    }
 }
 
 fn write_fault<W: Write>(
@@ -77,4 +62,35 @@ pub(crate) fn end_objects<W: Write, E: Write>(
         return end_parts(alloc, name, Err(stop), out, err);
     }
     end_parts(alloc, name, parts, out, err)
+}
+
+/// As [`rows_run`]. If parse errors have objects, they are not reported.
+pub(crate) fn rows<T: StreamItem + Drop, V: Shown, M: Rows<T, V>, R: BufRead, W: Write, E: Write>(
+    alloc: Global,
+    maker: M,
+    options: ReadOptions<'_>,
+    reader: &mut R,
+    out: &mut Watched<W>,
+    err: &mut Watched<E>,
+) -> u8 {
+    if let Output::Records(_) = maker.output() {
+        return rows_run::<T, V, M, R, W, E>(alloc, maker, options, reader, out, err);
+    }
+    let (name, none) = (options.name, &mut Watched::new(io::sink()));
+    let parts = write_rows::<T, V, M, R, W, io::Sink>(alloc, maker, options, reader, out, none);
+    end_objects(alloc, name, parts, out, err)
+}
+
+/// As [`rows`] of objects, of items with their widths and of items without.
+pub(crate) fn typed_objects<T: StreamItem + TypedItem + Drop, R: BufRead, W: Write, E: Write>(
+    alloc: Global,
+    maker: TypedObjects,
+    options: ReadOptions<'_>,
+    reader: &mut R,
+    out: &mut Watched<W>,
+    err: &mut Watched<E>,
+) -> u8 {
+    let (name, none) = (options.name, &mut Watched::new(io::sink()));
+    let parts = write_typed_objects::<T, R, W, io::Sink>(alloc, maker, options, reader, out, none);
+    end_objects(alloc, name, parts, out, err)
 }

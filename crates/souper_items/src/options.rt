@@ -1,10 +1,13 @@
 //! The command line.
 
+use crate::folders::kind_of_word;
+use crate::rewrite::Rewriting;
 use clap::ArgMatches;
 use souper_find::search::Choice;
-use souper_format::command::Kind;
+use souper_hint::Kind;
 use souper_records::layout::{Delimiter, Layout, Summary};
 use souper_records::output::Output;
+use souper_typed::Form;
 
 /// When errors have colors.
 #[derive(Clone, Copy)]
@@ -24,14 +27,17 @@ pub(crate) enum Action {
     /// Each replacement is written with the key of its left-hand side.
     Keyed(Output),
 
-    /// The record of the first of each graph is written.
-    Uniq(Layout),
+    /// The same as `Format`, of each with its widths; an item without widths is an error.
+    Typed(Form, Output),
+
+    /// The record of the first of each graph is written, if asked for with its widths.
+    Uniq(Option<Form>, Layout),
 
     /// The same after all streams, of the graphs and with the counts that are asked for.
-    Count(Layout, Summary),
+    Count(Option<Form>, Layout, Summary),
 
-    /// Each file is rewritten by its canonical text, or by that with names by the printed order; with `force` a write-protected one too.
-    Write { rename: bool, force: bool },
+    /// Each file is rewritten by its canonical text.
+    Write(Rewriting),
 
     /// What a store answers for each left-hand side is written.
     Find { choice: Choice, output: Output },
@@ -41,12 +47,15 @@ pub(crate) enum Action {
 
     /// The name of each file that is not canonical is written.
     List,
+
+    /// Whether all items of the stream have widths is found out.
+    Widths,
 }
 
 impl Action {
     /// Whether the output for an item depends on the items before it.
     pub(crate) fn remembers(self) -> bool {
-        matches!(self, Action::Uniq(_) | Action::Count(..))
+        matches!(self, Action::Uniq(..) | Action::Count(..))
     }
 
     /// Whether JSON objects are written, and parse errors have such.
@@ -54,6 +63,7 @@ impl Action {
         matches!(
             self,
             Action::Format(Output::Objects { .. })
+                | Action::Typed(_, Output::Objects { .. })
                 | Action::Keyed(Output::Objects { .. })
                 | Action::Find {
                     output: Output::Objects { .. },
@@ -62,16 +72,11 @@ impl Action {
         )
     }
 
-    /// Whether the names of the items that are written are by the printed order.
-    pub(crate) fn renames(self) -> bool {
-        matches!(self, Action::Format(output) if output.renames())
-    }
-
     /// Whether nothing is written to standard output while a file is read.
     pub(crate) fn is_silent(self) -> bool {
         matches!(
             self,
-            Action::Count(..) | Action::Write { .. } | Action::Check { diff: false }
+            Action::Count(..) | Action::Write(_) | Action::Check { diff: false } | Action::Widths
         )
     }
 }
@@ -109,7 +114,7 @@ impl Task<'_, '_> {
     /// What is wrong with the arguments together, if something is.
     pub(crate) fn fault(&self) -> Option<&'static str> {
         match self.action {
-            Action::Write { .. } if self.files.is_empty() || has_input(self.files) => {
+            Action::Write(_) if self.files.is_empty() || has_input(self.files) => {
                 Some("the argument '--write' needs files, and standard input is none")
             }
             Action::Find { .. } if has_input(self.stores) => {
@@ -171,27 +176,46 @@ fn read_choice(options: &ArgMatches<'_>) -> Choice {
     }
 }
 
+// How much of the widths is written, if that is asked for.
+fn read_form(options: &ArgMatches<'_>) -> Option<Form> {
+    if options.get_flag("complete") {
+        Some(Form::Complete)
+    } else if options.get_flag("widths") {
+        Some(Form::Widths)
+    } else {
+        None
+    }
+}
+
 // A flag that the command has not is false.
 fn read_action(name: &str, options: &ArgMatches<'_>) -> Option<Action> {
     let (layout, output) = (read_layout(options), read_output(options));
+    let form = read_form(options);
     let summary = Summary {
         counts: options.get_flag("count"),
         repeated: options.get_flag("repeated"),
     };
     match name {
-        "format" if options.get_flag("write") => Some(Action::Write {
+        "format" if options.get_flag("write") => Some(Action::Write(Rewriting {
             rename: layout.rename,
             force: options.get_flag("force"),
-        }),
+            quiet: options.get_flag("quiet"),
+        })),
         "format" if options.get_flag("lhs-key") => Some(Action::Keyed(output)),
-        "format" => Some(Action::Format(output)),
-        "uniq" if summary.counts || summary.repeated => Some(Action::Count(layout, summary)),
-        "uniq" => Some(Action::Uniq(layout)),
+        "format" => Some(match form {
+            Some(form) => Action::Typed(form, output),
+            None => Action::Format(output),
+        }),
+        "uniq" if summary.counts || summary.repeated => {
+            Some(Action::Count(form, layout, summary))
+        }
+        "uniq" => Some(Action::Uniq(form, layout)),
         "find" => Some(Action::Find {
             choice: read_choice(options),
             output,
         }),
         "check" if options.get_flag("list") => Some(Action::List),
+        "check" if form.is_some() => Some(Action::Widths),
         "check" => Some(Action::Check {
             diff: options.get_flag("diff"),
         }),
@@ -199,16 +223,12 @@ fn read_action(name: &str, options: &ArgMatches<'_>) -> Option<Action> {
     }
 }
 
-// The word of a kind, or `auto`. `find` has no such argument.
-fn read_kind(options: &ArgMatches<'_>) -> Option<Kind> {
-    Kind::from_word(options.get_str("KIND").unwrap_or("lhs"))
-}
-
 /// What the matches ask for.
 pub(crate) fn read_task<'m, 'a>(matches: &'m ArgMatches<'a>) -> Option<Task<'m, 'a>> {
     let (name, options) = matches.subcommand()?;
     Some(Task {
-        kind: read_kind(options),
+        // The word of a kind, or `auto`. `find` has no such argument.
+        kind: kind_of_word(options.get_str("KIND").unwrap_or("lhs")),
         action: read_action(name, options)?,
         recovers: options.get_flag("keep-going") || options.get_flag("json"),
         line_buffered: options.get_flag("line-buffered"),

@@ -1,16 +1,13 @@
 //! Files that are rewritten by their canonical texts.
 
-use crate::hint::say_hint;
+use crate::differ::canonical;
 use crate::losses::say_lost;
 use crate::{failed, out_of_memory};
 use souper_cli::progress::{Meter, Metered};
-use souper_format::watched::Watched;
 use souper_hint::Kind;
-use souper_ir::parse::Before;
 use souper_records::layout::{Layout, PLAIN};
-use souper_records::records::records_of_text;
-use souper_records::report::{report_error, report_not_utf8};
-use souper_stream::{StreamItem, not_utf8};
+use souper_stream::StreamItem;
+use souper_watched::Watched;
 use std::alloc::{AllocError, Global};
 use std::fs::{File, Metadata, OpenOptions};
 use std::io::{ErrorKind, Read, Write};
@@ -29,9 +26,6 @@ pub(crate) struct Rewriting {
 
     /// Whether nothing is said of comments and definitions that were not written.
     pub(crate) quiet: bool,
-
-    /// The kind of the items, if hints are shown.
-    pub(crate) hints: Option<Kind>,
 }
 
 // A file that is not a link.
@@ -145,6 +139,7 @@ fn replace<E: Write>(
 pub(crate) fn rewrite<T: StreamItem + Drop, E: Write>(
     rt: &HostRuntime,
     how: Rewriting,
+    kind: Kind,
     meter: &mut Meter<'_>,
     name: &str,
     err: &mut Watched<E>,
@@ -154,34 +149,26 @@ pub(crate) fn rewrite<T: StreamItem + Drop, E: Write>(
         Ok(target) => target,
         Err(fault) => return failed(alloc, name, &fault, err),
     };
-    let Ok(source) = str::from_utf8(&target.bytes) else {
-        let before = Before { bytes: 0, lines: 0 };
-        report_not_utf8(alloc, name, not_utf8(before, &target.bytes), err);
-        return 2;
-    };
     let layout = Layout {
         rename: how.rename,
         ..PLAIN
     };
-    match records_of_text::<T>(alloc, layout, source, Some(name)) {
-        Ok(text) if text.as_str() == source => 0,
-        Ok(text) if text.as_str().is_empty() => {
-            if !how.quiet {
-                let _ = writeln!(err, "{name}: no item; the file stays as it is");
-            }
-            0
-        }
-        Ok(text) => {
-            let status = replace(rt, name, &target, text.as_str(), err);
-            if status == 0 && !how.quiet {
-                say_lost::<T, E>(alloc, name, source, err);
-            }
-            status
-        }
-        Err(error) => {
-            let status = report_error(alloc, name, &error, err);
-            say_hint(alloc, how.hints, source, &error, err);
-            status
-        }
+    let text = match canonical::<T, E>(alloc, layout, name, Some(kind), &target.bytes, err) {
+        Ok(text) => text,
+        Err(status) => return status,
+    };
+    if text.as_bytes() == target.bytes.as_slice() {
+        return 0;
     }
+    if text.as_str().is_empty() {
+        if !how.quiet {
+            let _ = writeln!(err, "{name}: no item; the file stays as it is");
+        }
+        return 0;
+    }
+    let status = replace(rt, name, &target, text.as_str(), err);
+    if status == 0 && !how.quiet {
+        say_lost::<T, E>(alloc, name, &target.bytes, err);
+    }
+    status
 }

@@ -2,34 +2,35 @@
 
 use crate::differ::{check_diff, check_list};
 use crate::folders::{expand, kind_of_name};
-use crate::hint::{hint, hint_kind};
+use crate::hint::hint;
 use crate::input::Input;
 use crate::losses::say_would_be_lost;
-use crate::objects::end_objects;
+use crate::objects::{end_objects, rows, typed_objects};
 use crate::options::{Action, Task};
-use crate::rewrite::{Rewriting, rewrite};
+use crate::rewrite::rewrite;
 use crate::same_file::{FileId, file_id};
 use crate::{failed, out_of_memory};
 use souper_cli::progress::{Meter, Metered};
-use souper_find::answers::write_answers;
-use souper_find::keyed::write_keyed;
-use souper_find::run::{fill_run, find_run, keyed_run};
+use souper_find::keyed::{Keyed, Keying};
+use souper_find::run::fill_run;
 use souper_find::search::Search;
-use souper_format::command::Kind;
-use souper_format::watched::Watched;
 use souper_hash::Seed;
+use souper_hint::Kind;
 use souper_ir::ast::{LeftHandSide, Replacement, RightHandSide};
 use souper_lookup::store::Store;
 use souper_records::check::check_run;
-use souper_records::layout::Layout;
-use souper_records::objects::write_objects;
+use souper_records::layout::{Layout, PLAIN};
 use souper_records::options::ReadOptions;
 use souper_records::output::Output;
 use souper_records::run::{count_run, each_run_with, end_parts, uniq_run_with};
 use souper_records::seen::Seen;
 use souper_records::stop::{ReadFault, Stop};
 use souper_stream::StreamItem;
-use std::alloc::{AllocError, Global};
+use souper_typed::{Form, TypedItem};
+use souper_typing::layout::TypedLayout;
+use souper_typing::objects::TypedObjects;
+use souper_typing::run::{typed_run, typed_uniq_run};
+use souper_watched::Watched;
 use std::cell::Cell;
 use std::fs::File;
 use std::hash::RandomState;
@@ -48,7 +49,7 @@ struct Session<'s, W, E> {
     task: &'s Task<'s, 's>,
 
     // The paths, with the files of a folder in its place.
-    files: &'s [&'s str],
+    files: &'s [String],
 
     seen: Seen,
     store: Store,
@@ -62,31 +63,75 @@ struct Session<'s, W, E> {
     output: Option<FileId>,
 }
 
+// Writes the distinct items of a stream, if asked for with their widths. Returns a status of the program.
+fn uniq<T: StreamItem + TypedItem + Drop, R: BufRead, W: Write, E: Write>(
+    (form, layout): (Option<Form>, Layout),
+    options: ReadOptions<'_>,
+    seen: &mut Seen,
+    reader: &mut R,
+    out: &mut Watched<W>,
+    err: &mut Watched<E>,
+) -> u8 {
+    match form {
+        Some(form) => {
+            let layout = TypedLayout { form, layout };
+            typed_uniq_run::<T, R, W, E>(layout, options, seen, reader, out, err)
+        }
+        None => uniq_run_with::<T, R, W, E>(layout, options, seen, reader, out, err),
+    }
+}
+
 // Each method returns a status of the program.
 impl<'s, W: Write, E: Write> Session<'s, W, E> {
     // A stream of items of the type.
-    fn items<T: StreamItem + Drop, R: BufRead>(
+    fn items<T: StreamItem + TypedItem + Drop, R: BufRead>(
         &mut self,
         options: ReadOptions<'_>,
         reader: &mut R,
     ) -> u8 {
         let (alloc, name, hints) = (self.rt.alloc(), options.name, options.hints);
-        let (seen, out, err) = (&mut self.seen, &mut self.out, &mut self.err);
+        let (out, err) = (&mut self.out, &mut self.err);
         match self.task.action {
             Action::Format(Output::Records(layout)) => {
                 each_run_with::<T, R, W, E>(alloc, layout, options, reader, out, err)
             }
-            Action::Uniq(layout) => {
-                uniq_run_with::<T, R, W, E>(layout, options, seen, reader, out, err)
+            Action::Format(objects) => {
+                rows::<T, String, Output, R, W, E>(alloc, objects, options, reader, out, err)
+            }
+            Action::Typed(form, Output::Records(layout)) => {
+                let layout = TypedLayout { form, layout };
+                typed_run::<T, R, W, E>(alloc, layout, options, reader, out, err)
+            }
+            Action::Typed(form, Output::Objects { rename }) => {
+                let maker = TypedObjects { form, rename };
+                typed_objects::<T, R, W, E>(alloc, maker, options, reader, out, err)
+            }
+            Action::Widths => {
+                let layout = TypedLayout {
+                    form: Form::Widths,
+                    layout: PLAIN,
+                };
+                let mut none = Watched::new(io::sink());
+                typed_run::<T, R, io::Sink, E>(alloc, layout, options, reader, &mut none, err)
+            }
+            Action::Uniq(form, layout) => {
+                uniq::<T, R, W, E>((form, layout), options, &mut self.seen, reader, out, err)
             }
             // The records come at the end.
-            Action::Count(layout, _) => {
+            Action::Count(form, layout, _) => {
                 let layout = Layout {
                     key: false,
                     ..layout
                 };
                 let mut none = Watched::new(io::sink());
-                uniq_run_with::<T, R, io::Sink, E>(layout, options, seen, reader, &mut none, err)
+                uniq::<T, R, io::Sink, E>(
+                    (form, layout),
+                    options,
+                    &mut self.seen,
+                    reader,
+                    &mut none,
+                    err,
+                )
             }
             Action::Check { diff: false } => {
                 check_run::<T, R, E>(alloc, reader, name, hints, err)
@@ -95,41 +140,8 @@ impl<'s, W: Write, E: Write> Session<'s, W, E> {
                 check_diff::<T, R, W, E>(alloc, reader, name, hints, out, err)
             }
             Action::List => check_list::<T, R, W, E>(alloc, reader, name, hints, out, err),
-            Action::Format(Output::Objects { .. })
-            | Action::Write { .. }
-            | Action::Find { .. }
-            | Action::Keyed(_) => 2,
+            Action::Write(_) | Action::Find { .. } | Action::Keyed(_) => 2,
         }
-    }
-
-    // A stream whose parse errors have objects, and are not reported.
-    fn objects<R: BufRead>(&mut self, kind: Kind, options: ReadOptions<'_>, reader: &mut R) -> u8 {
-        let (alloc, name) = (self.rt.alloc(), options.name);
-        let (rename, store, out) = (self.task.action.renames(), &self.store, &mut self.out);
-        let mut none = Watched::new(io::sink());
-        let parts = match (self.task.action, kind) {
-            (Action::Find { choice, output }, _) => {
-                let search = Search {
-                    store,
-                    choice,
-                    output,
-                };
-                write_answers(alloc, search, options, reader, out, &mut none)
-            }
-            (Action::Keyed(output), _) => write_keyed(
-                alloc, output, options, reader, out, &mut none,
-            ),
-            (_, Kind::Lhs) => write_objects::<LeftHandSide, R, W, io::Sink>(
-                alloc, rename, options, reader, out, &mut none,
-            ),
-            (_, Kind::Rhs) => write_objects::<RightHandSide, R, W, io::Sink>(
-                alloc, rename, options, reader, out, &mut none,
-            ),
-            (_, Kind::Rep) => write_objects::<Replacement, R, W, io::Sink>(
-                alloc, rename, options, reader, out, &mut none,
-            ),
-        };
-        end_objects(alloc, name, parts, out, &mut self.err)
     }
 
     fn stream<R: BufRead>(&mut self, kind: Kind, reader: &mut R, name: &str) -> u8 {
@@ -138,11 +150,8 @@ impl<'s, W: Write, E: Write> Session<'s, W, E> {
             name,
             recover: self.task.recovers,
             line_buffered: self.task.line_buffered,
-            hints: Some(hint_kind(kind)),
+            hints: Some(kind),
         };
-        if self.task.action.has_objects() {
-            return self.objects(kind, options, reader);
-        }
         let (store, out, err) = (&self.store, &mut self.out, &mut self.err);
         match (self.task.action, kind) {
             (Action::Find { choice, output }, _) => {
@@ -151,9 +160,16 @@ impl<'s, W: Write, E: Write> Session<'s, W, E> {
                     choice,
                     output,
                 };
-                find_run(alloc, search, options, reader, out, err)
+                rows::<LeftHandSide, Vec<String>, Search<'_>, R, W, E>(
+                    alloc, search, options, reader, out, err,
+                )
             }
-            (Action::Keyed(output), _) => keyed_run(alloc, output, options, reader, out, err),
+            (Action::Keyed(output), _) => {
+                let keying = Keying(output);
+                rows::<Replacement, Keyed, Keying, R, W, E>(
+                    alloc, keying, options, reader, out, err,
+                )
+            }
             (_, Kind::Lhs) => self.items::<LeftHandSide, R>(options, reader),
             (_, Kind::Rhs) => self.items::<RightHandSide, R>(options, reader),
             (_, Kind::Rep) => self.items::<Replacement, R>(options, reader),
@@ -200,15 +216,6 @@ impl<'s, W: Write, E: Write> Session<'s, W, E> {
         }
     }
 
-    fn rewrite(&mut self, kind: Kind, how: Rewriting, meter: &mut Meter<'s>, path: &str) -> u8 {
-        let (rt, err) = (self.rt, &mut self.err);
-        match kind {
-            Kind::Lhs => rewrite::<LeftHandSide, E>(rt, how, meter, path, err),
-            Kind::Rhs => rewrite::<RightHandSide, E>(rt, how, meter, path, err),
-            Kind::Rep => rewrite::<Replacement, E>(rt, how, meter, path, err),
-        }
-    }
-
     // A file; `-` is standard input.
     fn file(&mut self, meter: &mut Meter<'s>, path: &'s str) -> u8 {
         if path == "-" {
@@ -229,15 +236,13 @@ impl<'s, W: Write, E: Write> Session<'s, W, E> {
     }
 
     fn read(&mut self, kind: Kind, meter: &mut Meter<'s>, path: &str) -> u8 {
-        if let Action::Write { rename, force } = self.task.action {
-            let quiet = self.task.quiet;
-            let how = Rewriting {
-                rename,
-                force,
-                quiet,
-                hints: Some(hint_kind(kind)),
+        if let Action::Write(how) = self.task.action {
+            let (rt, err) = (self.rt, &mut self.err);
+            return match kind {
+                Kind::Lhs => rewrite::<LeftHandSide, E>(rt, how, kind, meter, path, err),
+                Kind::Rhs => rewrite::<RightHandSide, E>(rt, how, kind, meter, path, err),
+                Kind::Rep => rewrite::<Replacement, E>(rt, how, kind, meter, path, err),
             };
-            return self.rewrite(kind, how, meter, path);
         }
         match open(self.rt, self.task.nul_ends, meter, path) {
             Ok(mut reader) => self.stream(kind, &mut reader, path),
@@ -298,7 +303,7 @@ impl<'s, W: Write, E: Write> Session<'s, W, E> {
             if self.out.failed() || status == 2 && self.task.action.remembers() {
                 break;
             }
-            status = status.max(self.file(meter, path));
+            status = status.max(self.file(meter, path.as_str()));
         }
         status
     }
@@ -313,7 +318,7 @@ impl<'s, W: Write, E: Write> Session<'s, W, E> {
         let status = self.read_files(&mut meter);
         meter.clear();
         match self.task.action {
-            Action::Count(layout, summary) if status != 2 => status.max(count_run(
+            Action::Count(_, layout, summary) if status != 2 => status.max(count_run(
                 self.rt.alloc(),
                 layout,
                 summary,
@@ -348,14 +353,6 @@ fn seed(rt: &HostRuntime) -> Seed {
     RandomState::new(rt).map_or(Seed::fixed(), Seed::new)
 }
 
-fn paths_of(alloc: Global, files: &[String]) -> Result<Vec<&str>, AllocError> {
-    let mut paths = Vec::with_capacity(alloc, files.len())?;
-    for file in files {
-        paths.push(file.as_str())?;
-    }
-    Ok(paths)
-}
-
 /// Does the task, and returns the status of the program.
 pub(crate) fn run_task<'s, E: Write + Drop>(
     rt: &'s HostRuntime,
@@ -368,9 +365,6 @@ pub(crate) fn run_task<'s, E: Write + Drop>(
         Ok(files) => files,
         Err(status) => return status,
     };
-    let Ok(paths) = paths_of(rt.alloc(), &files) else {
-        return out_of_memory(&mut err);
-    };
     let output = if task.action.is_silent() {
         None
     } else {
@@ -380,7 +374,7 @@ pub(crate) fn run_task<'s, E: Write + Drop>(
     Session {
         rt,
         task: &task,
-        files: paths.as_slice(),
+        files: files.as_slice(),
         seen: Seen::with_seed(rt.alloc(), seed),
         store: Store::with_seed(rt.alloc(), seed),
         out: Watched::new(rt.stdout()),

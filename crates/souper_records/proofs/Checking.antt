@@ -1,7 +1,6 @@
 -- Canonical streams. A text has one list of items, so it is canonical or not.
 use Rattle.std.proofs.Common.{inl, inr, ℕ, Bool, false, List, [], Option, refl, sym, ap, ◌∙◌, subst}
 use Rattle.souper_hint.specs.declared.kinds.Kind.{Kind}
-use Rattle.souper_records.specs.declared.stop.ReadFault.{ReadFault}
 use Rattle.std.proofs.KnownBytes.{Appends-nil, Appends-trans, Appends-kept}
 use Rattle.souper_records.proofs.Prelude.{Item, ItemType, TextSpells, texts_of, concat, all_lines, Watched, Stream, stream, IsGiven, IsGivenNothing}
 use Rattle.souper_ir.proofs.Items.Lists.{text_alone}
@@ -9,8 +8,8 @@ use Rattle.souper_diff.specs.declared.comparison.Comparison.{Comparison}
 use Rattle.souper_diff.specs.Comparisons.{DifferFrom, IsCompared}
 use Rattle.souper_records.specs.Canonical.{other_line, ReportedOtherLine, IsWhole, IsCheckRun}
 use Rattle.souper_records.specs.Outcomes.{parts_of, items_of, WritesParts, WroteParts}
-use Rattle.souper_format.specs.Reporting.{Reported}
-use Rattle.souper_records.specs.Reports.{IsMemoryLine, IsReadFaultLine, ReportedReadFault}
+use Rattle.souper_watched.specs.Streams.{Reported}
+use Rattle.souper_records.specs.Reports.{IsMemoryLine}
 use Rattle.souper_records.proofs.Outcomes.{none_reported}
 
 -- the whole stream was read, and compared with the canonical texts of the items that it spells
@@ -41,7 +40,7 @@ module _ {E : Type 0} (err_of : E → Option (List ℕ)) (x y z : Watched E) (qu
   given_after : (bytes : List ℕ) → IsGiven (stream err_of y z) bytes → IsGiven (stream err_of x z) bytes
   given_after bytes given = Appends-trans _ _ _ [] bytes (Appends-kept _ _ _ [] (Appends-nil _) quiet) given
 
-  reported_after : (P : List ℕ → Type 0) → Reported (stream err_of y z) P → Reported (stream err_of x z) P
+  pub reported_after : (P : List ℕ → Type 0) → Reported (stream err_of y z) P → Reported (stream err_of x z) P
   reported_after P r works = let (line, is, given) = r works in (line, is, given_after line given)
 
   module _ (k : ItemType) (name : List ℕ) (hints : Option Kind) (before after : Option (List ℕ)) where
@@ -53,10 +52,3 @@ module _ {E : Type 0} (err_of : E → Option (List ℕ)) (x y z : Watched E) (qu
     check_other c line status h differs (inl (one, says)) =
         rw one (inl (h.read, h.whole, (λ canonical. differs.0 (canonical.2 ∙ ap texts_of (text_alone k h.read canonical.0 h.items canonical.1 h.spelled))), (line, (λ small. (h.items, h.spelled, differs.1 small)), λ works. given_after (other_line name line) (says works))))
     check_other c line status h differs (inr (two, memory)) = rw two (inr (reported_after IsMemoryLine memory))
-
-    -- reading stopped
-    pub check_memory : Reported (stream err_of y z) IsMemoryLine → run 2
-    check_memory r = inr (reported_after IsMemoryLine r)
-
-    pub check_fault : (fault : ReadFault) → ReportedReadFault name (stream err_of y z) fault → run 2
-    check_fault fault r = inl (fault, reported_after (IsReadFaultLine fault name) r)

@@ -7,11 +7,10 @@ use Rattle.std.proofs.lemmas.List.Folds.{list_any-append}
 use Rattle.souper_graph.specs.Uses.{Has}
 use Rattle.souper_graph.proofs.Lists.{Has-right}
 use Rattle.souper_graph.proofs.Judging.Closed.{All-both, All-has, All-from_has}
-use Rattle.souper_records.specs.Distinct.{has_key, distinct_by, NoTwo, HoldsOfOne}
+use Rattle.souper_records.specs.Distinct.{has_key, distinct_by, NoTwo, HoldsOfOne, one_more, count_with_key, counts_by, tally, tally_all}
 use Rattle.std.specs.Map.{lookup}
 use Rattle.std.proofs.lemmas.List.Sums.{sum_by-append, sum_by-cons}
 use Rattle.indexmap.specs.IndexMap.{insert_entry}
-use Rattle.souper_records.specs.Counts.{one_more, count_with_key, counts_by, tally, tally_all}
 use Rattle.souper_records.specs.Uniques.{text_count}
 
 -- the count of one text more

@@ -1,7 +1,6 @@
 pub mod Prelude
 mod Checking
 mod Distinct
-mod Seeing
+pub mod Seeing
 pub mod Outcomes
-pub mod Outputs
 mod ObjectLines

@@ -1,6 +1,6 @@
 -- Part after part: the text read of a stream, the output, and the reports.
 use Rattle.std.proofs.Common.{◌≡◌, ◌⊎◌, inl, inr, ℕ, Bool, true, false, ◌||◌, ◌<◌, List, [], ◌∷◌, ◌++◌, length, arith, is_some, option_map, Option, Some, None, refl, sym, ap, ◌∙◌, subst, append_assoc, append-nil, Result, Ok, Err}
-use Rattle.std.specs.List.{cons_option}
+use Rattle.std.specs.List.{cons_option, AllZip}
 use Rattle.std.specs.declared.io.Error.{Error}
 use Rattle.std.proofs.lemmas.Bool.{false_from_ne_true, both_ways}
 use Rattle.std.proofs.lemmas.Grind.{flat_map-append}
@@ -19,8 +19,9 @@ use Rattle.souper_records.specs.declared.stop.Stop.{Stop}
 use Rattle.souper_records.specs.declared.stop.Stop.TheVariants.{Input, Output, Memory}
 use Rattle.souper_records.specs.Stops.{UnlessOutput}
 use Rattle.souper_records.specs.Runs.{output_name, EndsWithFault, IsPartsEnd, IsRun}
-use Rattle.souper_format.specs.Reporting.{Reported}
+use Rattle.souper_watched.specs.Streams.{Reported}
 use Rattle.souper_records.specs.Reports.{Refusal, IsMemoryLine, IsFaultLine, IsReadFaultLine}
+use Rattle.souper_records.specs.Outputs.{AreRowTexts}
 use Rattle.souper_records.specs.Outcomes.{InputStream, Outcome, IsOutcome, IsOutcomeAfter, AllAfter, AreOutcomes, HasItemStarts, HaveItemStarts, parts_of, items_of, refusals_of, any_refused, AreErrorLines, AreReported, AreReportedThen, WritesPart, WritesParts, ReadsParts, EndsRefused, IsBegun, StopsAfter, IsPartsResult, WroteParts}
 
 -- ---- lists of outcomes
@@ -191,6 +192,15 @@ module _ {i : InputStream} {mid : Option (List ℕ)} {asked : Bool} {wrote : Lis
       let (read, rest, consumed, whole, begun) = parts_begin i.kind i.before mid (parts_of r.outcomes) p r.had in
       let reads : ReadsParts i mid r.outcomes = record { read = read; rest = rest; consumed = consumed; whole = whole; are = r.are; begun = λ none. begun (items_of r.outcomes) (none_spelled none) } in
       (r.outcomes, (mid, reads, λ stops. inl (sym r.any_is ∙ quiet stops)), (λ stops. sym r.any_is ∙ quiet stops), r.reported, unless)
+
+-- ---- what is written by rows
+
+-- one part more
+pub row_texts_more : {V : Type 0} (R : Item → V → Type 0) (text_of : Outcome → List V → List ℕ) (os : List Outcome) (o : Outcome) (text : List ℕ) (rows : List V) → AreRowTexts R text_of os text → AllZip R o.items rows → AreRowTexts R text_of (os ++ o ∷ []) (text ++ text_of o rows)
+row_texts_more R text_of [] o text rows none are = rw none (rows, [], are, sym (append-nil (text_of o rows)), refl)
+row_texts_more R text_of (p ∷ os) o text rows (ps, rest, had, is, more) are =
+    let last = text_of o rows in
+    (ps, rest ++ last, had, ap (λ (x : List ℕ). x ++ last) is ∙ append_assoc (text_of p ps) rest last, row_texts_more R text_of os o rest rows more are)
 
 -- ---- the same outcomes, the output in other words
 

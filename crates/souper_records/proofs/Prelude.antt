@@ -1,8 +1,8 @@
 -- What the proofs of this crate cite of the crates below.
 pub use Rattle.indexmap.specs.IndexMap.{keys, index_map_len}
-pub use Rattle.souper_format.specs.Streams.{Stream, stream, IsGiven, IsGivenNothing}
-pub use Rattle.souper_format.specs.Watching.{has_failed, watched_inner}
-pub use Rattle.souper_format.specs.declared.watched.Watched.{Watched}
+pub use Rattle.souper_watched.specs.Streams.{Stream, stream, IsGiven, IsGivenNothing}
+pub use Rattle.souper_watched.specs.Watching.{has_failed, watched_inner}
+pub use Rattle.souper_watched.specs.declared.Watched.{Watched}
 pub use Rattle.souper_errors.specs.Errors.{kind_of}
 pub use Rattle.souper_errors.specs.declared.error.ParseError.{ParseError}
 pub use Rattle.souper_errors.specs.declared.error.ParseErrorKind.TheVariants.{Io, Parse}

@@ -19,7 +19,7 @@ use Rattle.souper_records.specs.declared.layout.Layout.{Layout}
 use Rattle.souper_records.specs.declared.seen.Seen.{Seen}
 use Rattle.souper_records.specs.Records.{record_of_text, record_of, records_of}
 use Rattle.souper_records.specs.Uniques.{text_by, text_count, distinct_items, AreSame, AreDistinct, HasText, HasSeen, WritesSeenDistinct, WritesNewDistinct, is_listed, summary_of_text, summary_of_item, summary_of, listed_items, WritesSummaryBegun}
-use Rattle.souper_records.specs.Counts.{count_with_key, tally_all}
+use Rattle.souper_records.specs.Distinct.{count_with_key, tally_all}
 use Rattle.souper_records.proofs.Distinct.{tallied_all, distinct-append, distinct-unseen, distinct-no_two, distinct-cover}
 use Rattle.std.proofs.lemmas.List.Elements.{filter-append}
 use Rattle.souper_records.specs.declared.layout.Summary.{Summary}

@@ -3,7 +3,6 @@ use Rattle.std.specs.Prelude.{◌≡◌, ◌⊎◌, ℕ, ◌+◌, ◌^◌, ◌<�
 use Rattle.std.specs.Io.KnownBytes.{Consumes}
 use Rattle.souper_records.specs.Prelude.{Item, ItemType, TextSpells, AreAll, Stream, IsGiven, IsGivenNothing}
 use Rattle.souper_graph.specs.Text.{texts_of}
-use Rattle.souper_format.specs.Formatted.{IsFormatted}
 use Rattle.souper_diff.specs.Comparisons.{DifferOnLine}
 use Rattle.souper_hint.specs.declared.kinds.Kind.{Kind}
 use Rattle.souper_records.specs.Outcomes.{WritesParts}
@@ -11,13 +10,9 @@ use Rattle.souper_records.specs.declared.stop.ReadFault.{ReadFault}
 use Rattle.souper_records.specs.Reports.{ReportedMemory, ReportedReadFault}
 use Rattle.souper_records.specs.Runs.{OnStatus}
 
--- the text is what the formatter writes of it: the canonical texts of the items that it spells, a newline after each
+-- the text is the canonical texts of the items that it spells, a newline after each
 abbrev pub IsCanonical : ItemType → List ℕ → Type 0
-IsCanonical k text = IsFormatted k text text
-
--- the text differs from the canonical texts of the items that it spells, on this line first
-abbrev pub IsOtherLine : ItemType → List ℕ → ℕ → Type 0
-IsOtherLine k text line = (items : List Item) × TextSpells k text items × DifferOnLine text (texts_of items) line
+IsCanonical k text = (items : List Item) × TextSpells k text items × (text ≡ texts_of items)
 
 -- the line that says on which line a text is not canonical
 abbrev pub other_line : List ℕ → ℕ → List ℕ
@@ -33,7 +28,7 @@ IsWhole before after read = Consumes before after read × AreAll before read
 
 -- the text spells items, and is not canonical: on which line it differs first was reported, if numbers of 64 bits can count the lines
 abbrev pub ReportedOther : ItemType → List ℕ → List ℕ → Stream → Type 0
-ReportedOther k name read err = (line : ℕ) × (length read + 1 < 2 ^ 64 → IsOtherLine k read line) × (err.failed ≡ false → IsGiven err (other_line name line))
+ReportedOther k name read err = (line : ℕ) × (length read + 1 < 2 ^ 64 → (items : List Item) × TextSpells k read items × DifferOnLine read (texts_of items) line) × (err.failed ≡ false → IsGiven err (other_line name line))
 
 -- The stream is refused: it begins with parts of which the last alone spells no items, and the refusal of that was reported. Whatever
 -- follows the text read, the stream spells no items.

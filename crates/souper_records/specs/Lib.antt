@@ -8,5 +8,4 @@ pub mod Outputs
 pub mod Runs
 pub mod Canonical
 pub mod Distinct
-pub mod Counts
 pub mod Uniques

@@ -1,7 +1,7 @@
 -- What the files of this crate cite of the crates below.
 pub use Rattle.serde_json.specs.Written.{compact_text}
-pub use Rattle.souper_format.specs.Streams.{Stream, IsGiven, IsGivenNothing, stream}
-pub use Rattle.souper_format.specs.Watching.{has_failed}
+pub use Rattle.souper_watched.specs.Streams.{Stream, IsGiven, IsGivenNothing, stream}
+pub use Rattle.souper_watched.specs.Watching.{has_failed}
 pub use Rattle.souper_errors.specs.Errors.{kind_of, at_end_of}
 pub use Rattle.souper_errors.specs.declared.error.ParseError.{ParseError}
 pub use Rattle.souper_graph.specs.Renaming.{renamed}

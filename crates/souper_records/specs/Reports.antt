@@ -1,7 +1,7 @@
 -- Definitions. The lines that the program reports an error with.
 use Rattle.std.specs.Prelude.{◌≡◌, ◌⊎◌, ℕ, ◌-◌, ◌<◌, Bool, true, false, not, ◌&&◌, List, [], ◌++◌, length, replicate, codes, decimal, bytes_eq, Option, None, Some, IfSome, option_copied, string_bytes}
 use Rattle.souper_records.specs.Prelude.{ItemType, Stream, Line, concat, all_lines}
-use Rattle.souper_format.specs.Reporting.{IsLineOf, Reported}
+use Rattle.souper_watched.specs.Streams.{IsLineOf, Reported}
 use Rattle.souper_errors.specs.Errors.{kind_of, located_error, message_of, location_of}
 use Rattle.souper_errors.specs.Places.{right_aligned}
 use Rattle.souper_errors.specs.declared.place.Location.{Location}
@@ -14,17 +14,13 @@ use Rattle.souper_records.specs.declared.rejected.Rejected.{Rejected}
 use Rattle.souper_records.specs.declared.stop.ReadFault.{ReadFault}
 use Rattle.souper_records.specs.declared.stop.ReadFault.TheVariants.{Utf8, Io}
 
--- the program's name, and what it says
-abbrev pub program_line : List ℕ → List ℕ
-program_line says = codes "souper_items: " ++ (says ++ codes "\n")
-
 -- the line with a message about a stream
 abbrev pub named_line : List ℕ → List ℕ → List ℕ
 named_line name says = codes "souper_items: " ++ (name ++ (codes ": " ++ (says ++ codes "\n")))
 
 -- the line for out of memory
 abbrev pub IsMemoryLine : List ℕ → Type 0
-IsMemoryLine line = line ≡ program_line (codes "out of memory")
+IsMemoryLine line = line ≡ codes "souper_items: out of memory\n"
 
 -- the line of bytes of a stream that are not UTF-8: its name, and on which line and at which byte they are
 abbrev pub not_utf8_line : List ℕ → NotUtf8 → List ℕ
@@ -90,10 +86,6 @@ hint_line (Some text) = codes "hint: " ++ (text ++ codes "\n")
 abbrev pub AreRefusalLines : Bool → List ℕ → Refusal → List ℕ → Type 0
 AreRefusalLines last name r lines = (line : List ℕ) × IsRefusalLine last name r.error line × (lines ≡ line ++ hint_line r.hint)
 
--- the line of the error was reported
-abbrev pub ReportedLine : Stream → ParseError → Type 0
-ReportedLine err e = Reported err (IsErrorLine e)
-
 -- out of memory was reported
 abbrev pub ReportedMemory : Stream → Type 0
 ReportedMemory err = Reported err IsMemoryLine
@@ -109,7 +101,7 @@ ReportedReadFault name err fault = Reported err (IsReadFaultLine fault name)
 -- The status is 1 if the text was refused, and the line of the refusal was written. It is 2 if a read failed, and its fault was reported,
 -- or if memory ran out, for the items or for the line of a refusal, and that was reported.
 abbrev pub ReportedError : List ℕ → Stream → ℕ → ParseError → Type 0
-ReportedError name err status e = ((status ≡ 1) × (kind_of e ≡ Parse) × ReportedLine err e)
+ReportedError name err status e = ((status ≡ 1) × (kind_of e ≡ Parse) × Reported err (IsErrorLine e))
     ⊎ (((status ≡ 2) × (kind_of e ≡ IoError) × ReportedFault name err) ⊎ ((status ≡ 2) × ReportedMemory err))
 
 -- whether the stream ends after the parts of this reader, as it says of any of them

@@ -11,7 +11,6 @@ use Rattle.souper_records.specs.declared.stop.ReadFault.{ReadFault}
 use Rattle.souper_records.specs.declared.stop.Stop.{Stop}
 use Rattle.souper_records.specs.declared.stop.Stop.TheVariants.{Input, Output, Memory}
 use Rattle.souper_records.specs.Uniques.{WritesDistinct, WritesSeenDistinct, summary_of, WritesSummaryBegun}
-use Rattle.souper_records.specs.Objects.{WritesObjects}
 use Rattle.souper_records.specs.Outcomes.{InputStream, Outcome, refusals_of, AreReported, AreReportedThen, WritesParts, IsBegun, OfItems, WritesRecords}
 use Rattle.souper_records.specs.Reports.{IsMemoryLine, IsFaultLine, IsReadFaultLine, ReportedMemory, ReportedFault, ReportedReadFault}
 
@@ -58,10 +57,6 @@ IsRun r after written known out err status = OnStatus status
 -- writing the record of each item
 abbrev pub IsRecordsRun : Layout → InputStream → Option (List ℕ) → Stream → Stream → ℕ → Type 0
 IsRecordsRun l r after out err status = IsRun r after (OfItems (WritesRecords l out)) (OfItems (WritesRecords l out)) out err status
-
--- writing the object of each item and of each refusal
-abbrev pub IsObjectsRun : Bool → InputStream → Option (List ℕ) → Stream → Stream → ℕ → Type 0
-IsObjectsRun rename r after out err status = IsRun r after (WritesObjects rename r out) (WritesObjects rename r out) out err status
 
 -- writing the records of the distinct items, after earlier ones
 abbrev pub IsDistinctRun : Layout → List Item → InputStream → Option (List ℕ) → Stream → Seen → Stream → ℕ → Type 0

@@ -10,8 +10,7 @@ use Rattle.souper_records.specs.declared.layout.Layout.{Layout}
 use Rattle.souper_records.specs.declared.layout.Summary.{Summary}
 use Rattle.souper_records.specs.declared.seen.Seen.{Seen}
 use Rattle.souper_records.specs.Records.{chosen, record_of_text, records_of}
-use Rattle.souper_records.specs.Distinct.{distinct_by, NoTwo, HoldsOfOne}
-use Rattle.souper_records.specs.Counts.{count_with_key, counts_by}
+use Rattle.souper_records.specs.Distinct.{distinct_by, NoTwo, HoldsOfOne, count_with_key, counts_by}
 
 -- the canonical text of the item, or of the item with names by its printed order
 abbrev pub text_by : Bool → Item → List ℕ

@@ -14,11 +14,11 @@ use crate::rejected::Rejected;
 use crate::report::{report_line, report_memory, report_read_fault};
 use crate::stop::Stop;
 use souper_diff::comparison::Comparison;
-use souper_format::watched::Watched;
 use souper_hint::Kind;
 use souper_ir::ast::{Arena, Statement};
 use souper_ir::parse::{Sink, WholeItem};
 use souper_stream::{ChunkSink, StreamItem};
+use souper_watched::Watched;
 use std::alloc::{AllocError, Global};
 use std::io;
 use std::io::{BufRead, Write};
@@ -45,12 +45,8 @@ struct Checked {
 impl<T: WholeItem + Drop> Sink<T> for Checked {
     ghost holds = { λ first checked items. (checked.comparison ≡ first.comparison) × (checked.records.layout ≡ first.records.layout) × (string_bytes checked.records.out ≡ records_of first.records.layout items) };
 
-    fn take(&mut self, item: T) -> Result<(), AllocError> {
+    fn take(&mut self, item: T) -> Result<Option<Arena<Statement>>, AllocError> {
         Sink::<T>::take(&mut self.records, item)
-    }
-
-    fn take_over(&mut self, item: T) -> Result<Option<Arena<Statement>>, AllocError> {
-        Sink::<T>::take_over(&mut self.records, item)
     }
 }
 
@@ -66,7 +62,6 @@ impl<T: StreamItem + Drop> PartSink<T> for Checked {
 
     fn write_part<W: Write>(
         &mut self,
-        _alloc: Global,
         part: Part<'_>,
         _refusal: Option<Rejected<'_>>,
         _out: &mut Watched<W>,
@@ -78,8 +73,8 @@ impl<T: StreamItem + Drop> PartSink<T> for Checked {
     }
 }
 
-/// Reads the stream part by part, and returns the status of the program: whether it is canonical, what
-/// [`format_text`](souper_format::items::format_text) returns for it.
+/// Reads the stream part by part, and returns the status of the program: whether it is canonical, the canonical texts of the items that it
+/// spells.
 ///
 /// - 0: it is, and nothing was written to `err`.
 /// - 1: it is not, and a line was written to `err` that says so, with the name and the number of the first line that differs:

@@ -8,7 +8,7 @@ use crate::layout::{Layout, Summary};
 use crate::records::append_record_of_text;
 use crate::seen::Seen;
 use crate::stop::{Stop, write_text};
-use souper_format::watched::Watched;
+use souper_watched::Watched;
 use std::alloc::{AllocError, Global};
 use std::io::Write;
 

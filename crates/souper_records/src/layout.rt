@@ -34,7 +34,7 @@ pub struct Summary {
     pub repeated: bool,
 }
 
-/// Canonical texts, a newline after each: what [`format_text`](souper_format::items::format_text) writes.
+/// Canonical texts, a newline after each.
 pub const PLAIN: Layout = Layout {
     delimiter: Delimiter::Newline,
     key: false,

@@ -15,6 +15,7 @@ pub mod parts;
 pub mod records;
 pub mod rejected;
 pub mod report;
+pub mod rows;
 pub mod run;
 pub mod seen;
 pub mod stop;

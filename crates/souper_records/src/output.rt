@@ -20,7 +20,13 @@ pub enum Output {
     /// By records.
     Records(Layout),
 
-    /// By JSON objects, each on a line of its own ([`write_objects`](crate::objects::write_objects)).
+    /// By JSON objects, each on a line of its own, also of refusals.
+    ///
+    /// The object of an item has its canonical `text`, the `key` of the text ([`key_of`](crate::records::key_of)), the name of the stream
+    /// as `file`, and where its first token is: the `offset` in bytes, and the 1-based `line`. The object of a refusal has `file`, `offset`,
+    /// `line`, `column`, `message` and `hint` (null if there is none): the line and the column are those of its location
+    /// ([`ParseError::location`](souper_ir::parse::ParseError::location)). It comes after the objects of the items that its segment begins
+    /// with.
     Objects {
         /// Whether the names in the texts are by the printed order.
         rename: bool,
@@ -40,7 +46,7 @@ impl Output {
 }
 
 /// What a sink keeps of an item until the output of its part is written.
-pub trait Shown {
+pub trait Shown: Drop {
     ghost use Rattle.souper_records.specs.declared.layout.Layout.{Layout};
     ghost use Rattle.souper_stream.specs.declared.starts.Start.{Start};
 

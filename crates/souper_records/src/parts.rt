@@ -2,7 +2,7 @@
 ghost use Rattle.std.specs.Prelude.{◌≡◌, ◌++◌, ◌∷◌, ℕ, [], List, true, Option, Some, IfOk, IfErr, IfSome, IfNone, OnOk, option_map};
 ghost use Rattle.souper_records.specs.Prelude.{Line, concat, stream};
 ghost use Rattle.souper_stream.specs.Parts.{HasParts, HasAll, keeps_starts, reads_eagerly};
-ghost use Rattle.souper_format.specs.Watching.{watched_inner, has_failed};
+ghost use Rattle.souper_watched.specs.Watching.{watched_inner, has_failed};
 ghost use Rattle.souper_records.specs.Reports.{refusal_of};
 ghost use Rattle.souper_records.specs.Stops.{IsNoInput, UnlessOutput};
 ghost use Rattle.souper_records.specs.Outcomes.{Outcome, IsAtStart, WritesPart, IsPartsResult, WroteParts, input_stream};
@@ -11,9 +11,9 @@ use crate::options::ReadOptions;
 use crate::rejected::{Rejected, as_text, hint_text};
 use crate::report::report_line;
 use crate::stop::{ReadFault, Stop, stop_of};
-use souper_format::watched::Watched;
 use souper_ir::parse::ParseErrorKind;
 use souper_stream::{ChunkSink, ItemReader, Start, StreamItem};
+use souper_watched::Watched;
 use std::alloc::Global;
 use std::io;
 use std::io::{BufRead, ErrorKind, Write};
@@ -42,7 +42,6 @@ pub trait PartSink<T: StreamItem + Drop>: ChunkSink<T> {
     /// Errors: `Stop::Output` if `out` failed, or `Stop::Memory`; then nothing was written.
     fn write_part<W: Write>(
         &mut self,
-        alloc: Global,
         part: Part<'_>,
         refusal: Option<Rejected<'_>>,
         out: &mut Watched<W>,
@@ -77,7 +76,7 @@ impl<'a> Source<'a> {
     /// A stream that is to be read with these options.
     ///
     /// For lines the reader is asked for no more while a part is there whole. Else a cut point is looked for after 64 KiB, or with recovery
-    /// in what the reader shows, and on to the end of a line; then whenever the buffer has doubled.
+    /// in what the reader shows; then whenever the buffer has doubled.
     pub fn new(alloc: Global, options: ReadOptions<'a>) -> Source<'a>
         ensures options { result.options ≡ options.entry }
         ensures eager { reads_eagerly result.parts ≡ options.entry.line_buffered }
@@ -105,9 +104,9 @@ impl<'a> Source<'a> {
     }
 }
 
-// Writes the output of the next part, and reports its refusal, if it is refused. Returns whether it is refused, or none at the end of the
-// stream.
-fn write_next<T: StreamItem + Drop, S: PartSink<T>, R: BufRead, W: Write, E: Write>(
+/// Writes the output of the next part, and reports its refusal, if it is refused. Returns whether it is refused, or none at the end of the
+/// stream. It stops as [`write_parts`] does.
+pub fn write_next<T: StreamItem + Drop, S: PartSink<T>, R: BufRead, W: Write, E: Write>(
     alloc: Global,
     source: &mut Source<'_>,
     sink: &mut S,
@@ -139,7 +138,7 @@ fn write_next<T: StreamItem + Drop, S: PartSink<T>, R: BufRead, W: Write, E: Wri
         Ok(true) => {
             let (starts, text) = (source.parts.starts(), source.parts.part());
             let end = start.saturating_add(text.len());
-            sink.write_part(alloc, Part { name, starts, text }, None, out)?;
+            sink.write_part(Part { name, starts, text }, None, out)?;
             source.passed = end;
             Ok(Some(false))
         }
@@ -153,7 +152,7 @@ fn write_next<T: StreamItem + Drop, S: PartSink<T>, R: BufRead, W: Write, E: Wri
                 hint: as_text(&hint),
             };
             let lines = rejected.lines(alloc, name, source.parts.is_at_end())?;
-            sink.write_part(alloc, Part { name, starts, text }, Some(rejected), out)?;
+            sink.write_part(Part { name, starts, text }, Some(rejected), out)?;
             report_line(&lines, err);
             source.passed = end;
             Ok(Some(true))

@@ -1,16 +1,16 @@
 //! The lines that report an error, each to a stream that may fail.
 ghost use Rattle.std.specs.Prelude.{◌≡◌, ℕ, ◌-◌, ◌<◌, ◌++◌, List, length, Option, true, false, replicate, codes, decimal, string_bytes, IfOk, OnOk};
 ghost use Rattle.souper_records.specs.Prelude.{ItemType, Line, kind_of, stream, IsGiven, has_failed};
-ghost use Rattle.souper_format.specs.Reporting.{Reported};
+ghost use Rattle.souper_watched.specs.Streams.{Reported};
 ghost use Rattle.souper_errors.specs.Errors.{message_of};
 ghost use Rattle.souper_errors.specs.Places.{right_aligned};
 ghost use Rattle.souper_stream.specs.Parts.{HasParts};
 ghost use Rattle.souper_records.specs.Reports.{IsErrorLine, IsNotUtf8Line, IsRefusalLine, IsShownLine, item_end_lines, says_end, ReportedMemory, ReportedReadFault, ReportedError, ReportedInput};
 
 use crate::stop::{ReadFault, Stop, stop_of};
-use souper_format::watched::Watched;
 use souper_ir::parse::{Location, ParseError, ParseErrorKind};
 use souper_stream::{ItemReader, NotUtf8};
+use souper_watched::Watched;
 use std::alloc::{AllocError, Global};
 use std::fmt::Display;
 use std::io::Write;

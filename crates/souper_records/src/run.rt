@@ -3,22 +3,22 @@ ghost use Rattle.std.specs.Prelude.{◌≡◌, true, List};
 ghost use Rattle.souper_records.specs.Prelude.{ItemType, Item, stream, has_failed};
 ghost use Rattle.souper_records.specs.Uniques.{HasSeen};
 ghost use Rattle.souper_records.specs.Outcomes.{input_stream};
-ghost use Rattle.souper_records.specs.Runs.{EndsWithFault, IsPartsEnd, IsRecordsRun, IsObjectsRun, IsDistinctRun, IsCountRun};
+ghost use Rattle.souper_records.specs.Runs.{EndsWithFault, IsPartsEnd, IsRecordsRun, IsDistinctRun, IsCountRun};
 
 use crate::counts::write_counts;
-use crate::each::write_records;
+use crate::each::Records;
 use crate::layout::{Layout, Summary};
-use crate::objects::write_objects;
 use crate::options::ReadOptions;
+use crate::parts::{Source, write_parts};
 use crate::report::{report_fault, report_memory, report_read_fault};
 use crate::seen::Seen;
 use crate::stop::Stop;
-use crate::uniq::write_distinct;
-use souper_format::watched::Watched;
+use crate::uniq::Distinct;
 use souper_stream::StreamItem;
+use souper_watched::Watched;
 use std::alloc::Global;
-use std::io;
 use std::io::{BufRead, ErrorKind, Write};
+use std::{io, mem};
 
 /// The status of a run whose output is a pipe that nobody reads: as a shell shows the end of a program by SIGPIPE, 128 and its number.
 pub const BROKEN_PIPE: u8 = 141;
@@ -72,7 +72,8 @@ pub fn end_parts<W: Write, E: Write>(
     }
 }
 
-/// Writes the record of each item of the stream to `out` ([`write_records`]), and returns the status of the program.
+/// Writes the record of each item of the stream to `out`, in order, part by part ([`ItemReader`](souper_stream::ItemReader)), and returns the
+/// status of the program. For a refused part the records of items that it begins with are written.
 ///
 /// - 0: done, no part was refused, and nothing was written to `err`.
 /// - 1: a part was refused. Each refusal was written to `err`, in order, with a newline, and shows the name: with recovery all of the
@@ -81,7 +82,7 @@ pub fn end_parts<W: Write, E: Write>(
 ///   refusals so far. Unless `out` failed, the records of the parts so far were written, and nothing else.
 /// - 141 ([`BROKEN_PIPE`]): `out` failed, since it is a pipe that nobody reads. Only the refusals so far were written to `err`.
 ///
-/// If a write to `err` fails, the status is the same.
+/// If a write to `err` fails, the status is the same. After a failed write nothing is known of the bytes written to `out`.
 pub fn each_run_with<T: StreamItem + Drop, R: BufRead, W: Write, E: Write>(
     alloc: Global,
     layout: Layout,
@@ -94,31 +95,18 @@ pub fn each_run_with<T: StreamItem + Drop, R: BufRead, W: Write, E: Write>(
         (stream W.contents out.old out.new) (stream E.contents err.old err.new) result }
 {
     let name = options.name;
-    let parts = write_records::<T, R, W, E>(alloc, layout, options, reader, out, err);
+    let mut records = Records::new(alloc, layout);
+    let source = Source::new(alloc, options);
+    let parts = write_parts::<T, Records, R, W, E>(alloc, source, &mut records, reader, out, err);
     end_parts(alloc, name, parts, out, err)
 }
 
-/// Writes a JSON object for each item of the stream and each refusal to `out` ([`write_objects`]). Returns the status of the program, as
-/// [`each_run_with`] does.
-pub fn objects_run_with<T: StreamItem + Drop, R: BufRead, W: Write, E: Write>(
-    alloc: Global,
-    rename: bool,
-    options: ReadOptions<'_>,
-    reader: &mut R,
-    out: &mut Watched<W>,
-    err: &mut Watched<E>,
-) -> u8
-    ensures { IsObjectsRun rename (input_stream T.item_type options.entry (R.remaining reader.old)) (R.remaining reader.new)
-        (stream W.contents out.old out.new) (stream E.contents err.old err.new) result }
-{
-    let name = options.name;
-    let parts = write_objects::<T, R, W, E>(alloc, rename, options, reader, out, err);
-    end_parts(alloc, name, parts, out, err)
-}
-
-/// Writes the record of each item of the stream that is the same graph as no earlier one to `out` ([`write_distinct`]), and returns the
-/// status of the program, as [`each_run_with`] does, with the records of the distinct items. After status 2 or 141 nothing is known of `seen`,
-/// which is not to be used again.
+/// Writes the record of each item of the stream that is the same graph as no earlier one, of this stream or of those before, to `out`: of
+/// each graph the first item, in order. With a layout that renames, items that differ in names alone are the same. Returns the status of
+/// the program, as [`each_run_with`] does.
+///
+/// `seen` is passed from stream to stream of one type and one layout: it has the texts of the items so far, in memory. After status 2 or 141
+/// nothing is known of it, and it is not to be used again.
 pub fn uniq_run_with<T: StreamItem + Drop, R: BufRead, W: Write, E: Write>(
     layout: Layout,
     options: ReadOptions<'_>,
@@ -132,7 +120,10 @@ pub fn uniq_run_with<T: StreamItem + Drop, R: BufRead, W: Write, E: Write>(
         (stream W.contents out.old out.new) seen.new (stream E.contents err.old err.new) result }
 {
     let (alloc, name) = (seen.alloc, options.name);
-    let parts = write_distinct::<T, R, W, E>(layout, options, seen, reader, out, err);
+    let mut distinct = Distinct::new(layout, mem::replace(seen, Seen::new(alloc)));
+    let source = Source::new(alloc, options);
+    let parts = write_parts::<T, Distinct, R, W, E>(alloc, source, &mut distinct, reader, out, err);
+    *seen = distinct.seen;
     end_parts(alloc, name, parts, out, err)
 }
 

@@ -2,7 +2,7 @@
 ghost use Rattle.std.specs.Prelude.{◌≡◌, [], Bool, OnOk, unwrap_or, string_eq};
 ghost use Rattle.indexmap.specs.IndexMap.{get, insert_entry};
 ghost use Rattle.souper_graph.specs.Syntax.Spelling.{ItemType};
-ghost use Rattle.souper_records.specs.Counts.{one_more};
+ghost use Rattle.souper_records.specs.Distinct.{one_more};
 ghost use Rattle.souper_records.specs.Uniques.{HasSeen};
 
 use indexmap::IndexMap;
@@ -46,5 +46,12 @@ impl Seen {
             alloc,
             counts: IndexMap::with_hasher(alloc, seed),
         }
+    }
+
+    /// The allocator of the index.
+    pub fn allocator(&self) -> Global
+        ensures { result ≡ self.now.alloc }
+    {
+        self.alloc
     }
 }

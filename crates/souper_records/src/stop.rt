@@ -5,9 +5,9 @@ ghost use Rattle.souper_errors.specs.Errors.{fault_of};
 ghost use Rattle.souper_records.specs.Stops.{input_stop, IsNoInput, UnlessOutput};
 ghost use Rattle.souper_records.specs.declared.stop.Stop.TheVariants.{Memory};
 
-use souper_format::watched::Watched;
 use souper_ir::parse::ParseError;
 use souper_stream::NotUtf8;
+use souper_watched::Watched;
 use std::alloc::AllocError;
 use std::io;
 use std::io::Write;

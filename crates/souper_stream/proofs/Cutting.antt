@@ -16,7 +16,7 @@ use Rattle.souper_stream.specs.declared.lines.ScanState.{ScanState}
 use Rattle.souper_stream.specs.Lines.{line_word, token_begins_terminator, defines, shows_line, NoStart, LastEnds, first_state, state_after, scanned, starts_line, begins_terminator, IsAbsent, NoTerminatorWord, IsWithoutEnd, PassesOver}
 use Rattle.souper_stream.specs.Segments.{Line, concat, AreLines, tokens_of, tokens_of_lines, EndsItem, FirstStarts, HasNoCut, IsCut, IsFirstSegment, IsWholeLine, CutsAt, HasNoCutAfter, HasBadLine}
 use Rattle.souper_stream.specs.declared.cuts.Scan.{Scan}
-use Rattle.souper_stream.specs.Scanning.{IsStateAfter, first_scan, IsScan, HasScan, HasNoneDue}
+use Rattle.souper_stream.specs.Scanning.{IsStateAfter, first_scan, IsScan, HasScan}
 use Rattle.souper_stream.proofs.Parting.{end_is_line, NoEnd, no_end_ends, ends_within, starts_longer}
 use Rattle.souper_stream.proofs.LineLists.{starts_not_none, concat-append, tokens_snoc, lines_back, lines_split, no_bytes, line_first, are_front, lines_whole, tokens-append, lines_exist}
 
@@ -209,9 +209,6 @@ scan_within k text scan h =
     let (ls, lines, e) = lines_exist text in
     let s = h ls e lines in
     omega (arith, s.len_is, ap length (e ∙ ap concat s.whole ∙ concat-append s.front s.back), length-append (concat s.front) (concat s.back))
-
-pub none_due_nil : (k : ItemType) (text : List ℕ) → length text ≡ 0 → HasNoneDue k text
-none_due_nil k text none ls e lines = inl (rw (no_bytes ls lines (sym (ap length e) ∙ none)) (no_cut_none k))
 
 -- whole lines have more after them
 pub scan_more : (k : ItemType) (text more : List ℕ) (scan : Scan) → IsLines text → HasScan k text scan → HasScan k (text ++ more) scan

@@ -1,11 +1,11 @@
 //! The buffer of a stream.
-ghost use Rattle.std.specs.Prelude.{◌≡◌, ℕ, ◌+◌, ◌^◌, ◌<◌, ◌≤◌, List, [], length, take, vec_len, OnOk};
+ghost use Rattle.std.specs.Prelude.{◌≡◌, ℕ, ◌+◌, ◌-◌, ◌^◌, ◌<◌, ◌≤◌, List, [], length, take, drop, vec_len};
 ghost use Rattle.souper_stream.specs.Prelude.{newlines};
 ghost use Rattle.souper_stream.specs.Buffering.{Buffers, Counts, window, unparsed, Passes};
 
 use crate::lines::last_line_start;
 use souper_ir::parse::Before;
-use std::alloc::{AllocError, Global};
+use std::alloc::Global;
 
 /// The buffer of a stream.
 #[derive(Drop)]
@@ -52,6 +52,17 @@ pub(crate) fn newline_count(bytes: &[u8]) -> usize
         count += usize::from(newlines_of_chunk(chunk));
     }
     count
+}
+
+// Removes the first `n` bytes, and moves the others to the front.
+fn remove_front(bytes: &mut Vec<u8>, n: usize)
+    requires { n ≤ vec_len bytes.old }
+    ensures items { bytes.new.items ≡ drop n bytes.old.items }
+    ensures len { vec_len bytes.new ≡ vec_len bytes.old - n }
+{
+    let len = bytes.len();
+    bytes.as_mut_slice().copy_within(n..len, 0);
+    bytes.truncate(len - n);
 }
 
 impl Buffer {
@@ -116,17 +127,16 @@ impl Buffer {
     }
 
     /// Drops the lines that are not needed any more, and with them the bytes that were parsed last.
-    #[tactic(auto, using(std::proofs::lemmas::List::take_rest, crate::proofs::Buffers::buffers_drained))]
-    pub(crate) fn drain(&mut self, alloc: Global) -> Result<(), AllocError>
+    #[tactic(auto, using(crate::proofs::Buffers::buffers_drained))]
+    pub(crate) fn drain(&mut self)
         requires { self.old.start + self.old.parsed ≤ vec_len self.old.bytes }
-        ensures bytes { OnOk result (self.new.bytes.items ≡ window self.old) }
-        ensures last { OnOk result (self.new.last ≡ 0) }
-        ensures within { OnOk result (self.new.start + self.new.parsed ≤ vec_len self.new.bytes) }
-        ensures buffers { OnOk result ((done rest : List ℕ) → Buffers done rest self.old → Buffers done rest self.new) }
+        ensures bytes { self.new.bytes.items ≡ window self.old }
+        ensures last { self.new.last ≡ 0 }
+        ensures within { self.new.start + self.new.parsed ≤ vec_len self.new.bytes }
+        ensures buffers { (done rest : List ℕ) → Buffers done rest self.old → Buffers done rest self.new }
     {
-        self.bytes = self.bytes[self.start..].to_vec(alloc)?;
+        remove_front(&mut self.bytes, self.start);
         self.start = 0;
         self.last = 0;
-        Ok(())
     }
 }

@@ -1,5 +1,5 @@
 //! Where a text is cut.
-ghost use Rattle.std.specs.Prelude.{◌≡◌, ◌⊎◌, ◌+◌, ◌<◌, ◌≤◌, List, length, take, drop, IfOk, IfSome, IfNone, OnErr, IsUtf8};
+ghost use Rattle.std.specs.Prelude.{◌≡◌, ◌⊎◌, ◌+◌, ◌<◌, ◌≤◌, List, length, take, drop, true, IfOk, IfSome, IfNone, OnErr, IsUtf8};
 ghost use Rattle.souper_stream.specs.Prelude.{IsLines};
 ghost use Rattle.souper_stream.specs.Lines.{PassesOver};
 ghost use Rattle.souper_stream.specs.Segments.{Line, concat, AreLines, HasNoCut, CutsAt, HasNoCutAfter, IsFirstSegment, HasBadLine};
@@ -111,14 +111,11 @@ pub fn segment_len<T: StreamItem>(text: &[u8]) -> io::Result<usize>
     }
 }
 
-/// The last cut point of whole lines, or 0 if there is none, and how far the lines after it were scanned then, given how far the lines were
-/// scanned before. A line that is not UTF-8 ends the scan.
-///
-/// The error says that the bytes are not UTF-8, in the first segment or in the line after it.
-pub(crate) fn scan_to_last_cut<T: StreamItem>(
-    text: &[u8],
-    before: Scan,
-) -> io::Result<(usize, Scan)>
+// The last cut point of whole lines, or 0 if there is none, and how far the lines after it were scanned then, given how far the lines were
+// scanned before. A line that is not UTF-8 ends the scan.
+//
+// The error says that the bytes are not UTF-8, in the first segment or in the line after it.
+fn scan_to_last_cut<T: StreamItem>(text: &[u8], before: Scan) -> io::Result<(usize, Scan)>
     requires within { before.len ≤ length text.now }
     requires scanned { HasScan T.item_type text.now before }
     ensures within { IfOk result (λ found. found.0 + found.1.len ≤ length text.now) }
@@ -202,4 +199,24 @@ pub fn last_cut<T: StreamItem>(text: &[u8]) -> usize
         };
     }
     last_cut_after::<T>(text, 0)
+}
+
+/// The last cut point of whole lines, or 0 if there is none, and how far the lines after it were scanned: by an eager reader, which says how
+/// far they were scanned before ([`scan_to_last_cut`]), or from the end ([`last_cut`]).
+pub(crate) fn find_cut<T: StreamItem>(
+    text: &[u8],
+    before: Scan,
+    is_eager: bool,
+) -> io::Result<(usize, Scan)>
+    requires within { before.len ≤ length text.now }
+    requires scanned { HasScan T.item_type text.now before }
+    ensures within { IfOk result (λ found. found.0 ≤ length text.now) }
+    ensures cut { IfOk result (λ found. 0 < found.0 → (ls : List Line) → text.now ≡ concat ls → AreLines ls → CutsAt T.item_type ls found.0) }
+    ensures scanned { IfOk result (λ found. HasScan T.item_type (drop found.0 text.now) found.1) }
+    ensures none { is_eager ≡ true → IfOk result (λ found. HasNoneDue T.item_type (drop found.0 text.now)) }
+{
+    if is_eager {
+        return scan_to_last_cut::<T>(text, before);
+    }
+    Ok((last_cut::<T>(text), Scan::new()))
 }

@@ -9,6 +9,7 @@ ghost use Rattle.souper_stream.specs.Reading.{IsStreamTaken, IsStreamRefused};
 use crate::item::StreamItem;
 use crate::reader::ItemReader;
 use crate::sink::ChunkSink;
+use souper_ir::ast::{Arena, Statement};
 use souper_ir::parse::{ParseError, ParseErrorKind, Result, Sink, WholeItem};
 use std::alloc::{AllocError, Global};
 use std::io::{BufRead, ErrorKind};
@@ -53,9 +54,9 @@ struct Pending<T: Drop> {
 impl<T: WholeItem + Drop> Sink<T> for Pending<T> {
     ghost holds = { λ first pending items. (map T.view pending.items.items ≡ items) × AllByRecursion WellFormed items };
 
-    fn take(&mut self, item: T) -> std::result::Result<(), AllocError> {
+    fn take(&mut self, item: T) -> std::result::Result<Option<Arena<Statement>>, AllocError> {
         self.items.push(item)?;
-        Ok(())
+        Ok(None)
     }
 }
 

@@ -1,16 +1,17 @@
 //! The reader of a stream: chunks of whole segments, and the segments of a chunk that spells no items.
-ghost use Rattle.std.specs.Prelude.{◌≡◌, ◌+◌, ◌++◌, ◌<◌, ◌≤◌, ◌⊎◌, ℕ, List, [], length, take, drop, true, false, Option, None, is_some, Ok, IfOk, IfErr, IfSome, OnOk, vec_len, option_copied};
-ghost use Rattle.std.specs.Io.{StopsAt, appended_bytes};
+ghost use Rattle.std.specs.Prelude.{◌≡◌, ◌+◌, ◌++◌, ◌<◌, ◌≤◌, ◌⊎◌, ℕ, List, [], length, take, drop, true, false, Option, None, is_some, IfOk, IfErr, IfSome, OnOk, vec_len, option_copied};
+ghost use Rattle.std.specs.Io.{appended_bytes};
 ghost use Rattle.std.specs.IoError.{error_kind};
-ghost use Rattle.souper_stream.specs.Prelude.{IsOneLine, IsLines, ItemType, Item, IsStrError, kind_of, offset_of, HasLocationAfter, IsLocatedAfter, EndsIn, TakesOver, TakesFrom, TextSpellsFrom, PrefixSpellsFrom, HasStarts, starts_of, TextStops, at_end_of};
+ghost use Rattle.souper_stream.specs.Prelude.{IsOneLine, IsLines, ItemType, Item, IsStrError, kind_of, offset_of, HasLocationAfter, IsLocatedAfter, TakesOver, TakesFrom, TextSpellsFrom, PrefixSpellsFrom, HasStarts, starts_of, TextStops, at_end_of};
 ghost use Rattle.souper_stream.specs.Starts.{Ascend};
 ghost use Rattle.souper_stream.specs.Buffering.{window, unparsed, KeepsWindow};
-ghost use Rattle.souper_stream.specs.Segments.{Line, concat, all_lines};
+ghost use Rattle.souper_stream.specs.Scanning.{HasScan, HasNoneDue};
+ghost use Rattle.souper_stream.specs.Segments.{Line, concat, all_lines, AreLines, CutsAt};
 ghost use Rattle.souper_stream.specs.Reading.{ReadsBytes};
 ghost use Rattle.souper_stream.specs.Parts.{Advances, KeepsParts, HasParts, HasAll, Holds, EndsAfter, part_of, keeps_starts, reads_eagerly, starts_of_part, ReadsOn, buffered, ReadsLast, TakesPart, RefusesPart};
 
 use crate::buffer::Buffer;
-use crate::cuts::{Scan, last_cut, scan_to_last_cut, segment_len};
+use crate::cuts::{Scan, find_cut, segment_len};
 use crate::faults::{NotUtf8, not_utf8};
 use crate::item::StreamItem;
 use crate::lines::{lines_len, utf8};
@@ -39,52 +40,6 @@ fn read_block<R: BufRead>(reader: &mut R, bytes: &mut Vec<u8>) -> io::Result<boo
     bytes.extend_from_slice(&shown[..len])?;
     reader.consume(len);
     Ok(has_ended)
-}
-
-// Reads until `goal` bytes are buffered, or until the input has ended. Returns whether it has ended.
-fn fill_blocks<R: BufRead>(reader: &mut R, bytes: &mut Vec<u8>, goal: usize) -> io::Result<bool>
-    ensures { ReadsBytes (R.remaining reader.old) (R.remaining reader.new) bytes.old.items bytes.new.items result }
-{
-    for _turn in 0..u64::MAX {
-        if bytes.len() >= goal {
-            return Ok(false);
-        }
-        match read_block(reader, bytes) {
-            Ok(false) => {}
-            Ok(true) => return Ok(true),
-            Err(fault) => return Err(fault),
-        }
-    }
-    Err(io::Error::from(ErrorKind::Other))
-}
-
-// Reads a line, and returns whether the input has ended: it is then empty, or has no newline.
-#[tactic(auto, using(crate::proofs::Buffers::line_reads, crate::proofs::Buffers::line_ends))]
-fn read_line<R: BufRead>(reader: &mut R, bytes: &mut Vec<u8>) -> io::Result<bool>
-    ensures read { ReadsBytes (R.remaining reader.old) (R.remaining reader.new) bytes.old.items bytes.new.items result }
-    ensures line { StopsAt (appended_bytes bytes.old.items bytes.new.items) 10 }
-    ensures ends { result ≡ Ok false → EndsIn (appended_bytes bytes.old.items bytes.new.items) 10 }
-{
-    let len = reader.read_until(b'\n', bytes)?;
-    Ok(len == 0 || bytes[bytes.len() - 1] != b'\n')
-}
-
-// Reads until `goal` bytes are buffered, and on to the end of a line, or until the input has ended. Returns whether it has ended. Some bytes
-// are read in any case, if there are any.
-#[tactic(auto, using(crate::proofs::Buffers::line_ends, crate::proofs::Buffers::ends_both))]
-fn fill_lines<R: BufRead>(reader: &mut R, bytes: &mut Vec<u8>, goal: usize) -> io::Result<bool>
-    ensures read { ReadsBytes (R.remaining reader.old) (R.remaining reader.new) bytes.old.items bytes.new.items result }
-    ensures ends { result ≡ Ok false → EndsIn (appended_bytes bytes.old.items bytes.new.items) 10 }
-{
-    let start = bytes.len();
-    if fill_blocks(reader, bytes, goal)? {
-        return Ok(true);
-    }
-    let len = bytes.len();
-    if len > start && bytes[len - 1] == b'\n' {
-        return Ok(false);
-    }
-    read_line(reader, bytes)
 }
 
 // The length of the whole lines that the bytes begin with, if no newline is in the first `start` bytes; or of all, if the input has ended.
@@ -131,7 +86,7 @@ pub struct ItemReader {
     // Whether a cut point is looked for whenever something was read, and not only when the buffer has doubled.
     is_eager: bool,
 
-    // The bytes that an eager reader has read after the last newline.
+    // The bytes that were read after the last newline.
     open_line: Vec<u8>,
 
     // How far an eager reader has scanned the lines after the pending bytes.
@@ -155,7 +110,7 @@ pub struct ItemReader {
 
 impl ItemReader {
     /// A reader at the start of a stream. `min_chunk` is the chunk size in bytes: a cut point is looked for when the buffer has
-    /// grown by `min_chunk` bytes, and to the end of a line. If none is found, it is looked for again when the buffer has doubled.
+    /// grown by `min_chunk` bytes. If none is found, it is looked for again when the buffer has doubled.
     /// With a small chunk size items are passed to the sink sooner ([`eager`](ItemReader::eager) too); with a larger one reading takes less
     /// time.
     pub fn new(alloc: Global, min_chunk: usize) -> ItemReader
@@ -245,39 +200,8 @@ impl ItemReader {
         }
     }
 
-    // Reads until `goal` bytes are buffered, if the stream has not ended. The error of a read that fails is returned by the next call, after
-    // the segments before it: whole lines that were read stay in the buffer, and no part of a line.
-    fn read_more<R: BufRead>(&mut self, reader: &mut R, goal: usize) -> io::Result<()>
-        requires parsed { self.old.buffer.start + self.old.buffer.parsed ≤ vec_len self.old.buffer.bytes }
-        requires none { self.old.pending ≡ 0 }
-        ensures same { keeps_starts self.new ≡ keeps_starts self.old }
-        ensures eager { self.new.is_eager ≡ self.old.is_eager }
-        ensures parsed { self.new.buffer.start + self.new.buffer.parsed ≤ vec_len self.new.buffer.bytes }
-        ensures none { self.new.pending ≡ 0 }
-        ensures buffer { self.new.buffer ≡ record self.old.buffer { bytes = self.new.buffer.bytes } }
-        ensures kept { OnOk result ((more : List ℕ) × (self.new.buffer.bytes.items ≡ self.old.buffer.bytes.items ++ more)) }
-        ensures read { OnOk result ((k : ItemType) → KeepsParts k (R.remaining reader.old) (R.remaining reader.new) self.old self.new) }
-    {
-        if self.ended {
-            return Ok(());
-        }
-        if let Some(fault) = self.fault.take() {
-            return Err(fault);
-        }
-        let start = self.buffer.bytes.len();
-        self.buffer.bytes.append(&mut self.open_line)?;
-        match fill_lines(reader, &mut self.buffer.bytes, goal) {
-            Ok(ended) => self.ended = ended,
-            Err(fault) => {
-                let len = lines_len(&self.buffer.bytes[start..]);
-                self.buffer.bytes.truncate(start + len);
-                self.fault = Some(fault);
-            }
-        }
-        Ok(())
-    }
-
-    // Reads what the input shows, and waits for no more. Of a line whose end is not there, the bytes stay apart.
+    // Reads what the input shows, and waits for no more. Of a line whose end is not there, the bytes stay apart. The error of a read that
+    // fails is returned by the next call, after the segments before it.
     fn read_shown<R: BufRead>(&mut self, reader: &mut R) -> io::Result<()>
         requires parsed { self.old.buffer.start + self.old.buffer.parsed ≤ vec_len self.old.buffer.bytes }
         requires going { self.old.ended ≡ false }
@@ -288,14 +212,21 @@ impl ItemReader {
         ensures none { self.new.pending ≡ 0 }
         ensures buffer { self.new.buffer ≡ record self.old.buffer { bytes = self.new.buffer.bytes } }
         ensures kept { OnOk result ((more : List ℕ) × (self.new.buffer.bytes.items ≡ self.old.buffer.bytes.items ++ more)) }
-        ensures shown { OnOk result ((block : List ℕ) × (length block ≤ 65536) × (buffered self.new ≡ buffered self.old ++ block)) }
+        ensures shown { OnOk result ((line : List ℕ) × (block : List ℕ) × ((line ≡ self.old.open_line.items) ⊎ (line ≡ [])) × (length block ≤ 65536) × (buffered self.new ≡ (unparsed self.old.buffer ++ line) ++ block)) }
         ensures read { OnOk result ((k : ItemType) → KeepsParts k (R.remaining reader.old) (R.remaining reader.new) self.old self.new) }
     {
         if let Some(fault) = self.fault.take() {
             return Err(fault);
         }
         let start = self.open_line.len();
-        self.ended = read_block(reader, &mut self.open_line)?;
+        self.ended = match read_block(reader, &mut self.open_line) {
+            Ok(ended) => ended,
+            Err(fault) => {
+                self.open_line.clear();
+                self.fault = Some(fault);
+                return Ok(());
+            }
+        };
         let len = closed_len(&self.open_line, start, self.ended);
         if len == 0 {
             return Ok(());
@@ -306,47 +237,51 @@ impl ItemReader {
         Ok(())
     }
 
-    // Reads up to the end of the next chunk, as an eager reader does: it looks for a cut point before each read.
-    fn next_shown<T: StreamItem, R: BufRead>(&mut self, reader: &mut R) -> io::Result<()>
+    // How many bytes are buffered.
+    fn held(&self) -> usize {
+        self.buffer.bytes.len().saturating_add(self.open_line.len())
+    }
+
+    // Whether it is time to look for a cut point.
+    fn is_due(&self, goal: usize) -> bool
+        ensures { self.now.is_eager ≡ true → result ≡ true }
+    {
+        self.is_eager || self.fault.is_some() || self.held() >= goal
+    }
+
+    // Looks for the last cut point of the lines that are not parsed, if `goal` bytes are buffered or a read has failed; an eager reader does
+    // so in any case. The length up to it is pending then, 0 if there is none. Returns whether it was looked for.
+    fn look<T: StreamItem>(&mut self, goal: usize) -> io::Result<bool>
         requires parsed { self.old.buffer.start + self.old.buffer.parsed ≤ vec_len self.old.buffer.bytes }
         requires none { self.old.pending ≡ 0 }
-        requires had { (start : Option (List ℕ)) × (ps : List (List Line)) × HasParts T.item_type start (R.remaining reader.old) ps self.old }
+        requires scanned { HasScan T.item_type (unparsed self.old.buffer) self.old.scan }
+        ensures only { self.new ≡ record self.old { pending = self.new.pending; scan = self.new.scan } }
         ensures same { keeps_starts self.new ≡ keeps_starts self.old }
         ensures eager { self.new.is_eager ≡ self.old.is_eager }
-        ensures next { OnOk result ((start : Option (List ℕ)) (ps : List (List Line)) → HasParts T.item_type start (R.remaining reader.old) ps self.old
-            → HasParts T.item_type start (R.remaining reader.new) ps self.new × (self.new.pending ≡ 0 → HasAll T.item_type start (R.remaining reader.new) ps)) }
+        ensures buffer { self.new.buffer ≡ self.old.buffer }
+        ensures going { self.new.ended ≡ self.old.ended }
         ensures within { OnOk result (self.new.buffer.start + self.new.buffer.parsed + self.new.pending ≤ vec_len self.new.buffer.bytes) }
-        ensures buffer { self.new.buffer ≡ record self.old.buffer { bytes = self.new.buffer.bytes } }
-        ensures kept { OnOk result ((more : List ℕ) × (self.new.buffer.bytes.items ≡ self.old.buffer.bytes.items ++ more)) }
-        ensures due { OnOk result ((R.remaining reader.new ≡ R.remaining reader.old) ⊎ ReadsLast T.item_type (buffered self.new)) }
+        ensures cut { OnOk result (0 < self.new.pending → (ls : List Line) → unparsed self.old.buffer ≡ concat ls → AreLines ls → CutsAt T.item_type ls self.new.pending) }
+        ensures scanned { OnOk result (HasScan T.item_type (drop self.new.pending (unparsed self.old.buffer)) self.new.scan) }
+        ensures due { self.old.is_eager ≡ true → OnOk result (HasNoneDue T.item_type (drop self.new.pending (unparsed self.old.buffer))) }
     {
-        for _turn in 0..u64::MAX {
-            let text = self.buffer.unparsed();
-            if self.ended {
-                (self.pending, self.scan) = (text.len(), Scan::new());
-                return Ok(());
-            }
-            (self.pending, self.scan) = match scan_to_last_cut::<T>(text, self.scan) {
-                Ok(found) => found,
-                Err(_) => {
-                    self.pending = text.len();
-                    return Err(not_text(&self.buffer, self.pending));
-                }
-            };
-            if self.pending > 0 {
-                return Ok(());
-            }
-            self.read_shown::<R>(reader)?;
+        let due = self.is_due(goal);
+        if !due {
+            return Ok(false);
         }
-        Err(io::Error::from(ErrorKind::Other))
+        let text = self.buffer.unparsed();
+        (self.pending, self.scan) = match find_cut::<T>(text, self.scan, self.is_eager) {
+            Ok(found) => found,
+            Err(_) => {
+                self.pending = text.len();
+                return Err(not_text(&self.buffer, self.pending));
+            }
+        };
+        Ok(true)
     }
 
     // Drops what is not needed any more, and reads up to the end of the next chunk. Its length is pending then: 0 if the stream has ended.
-    fn next_chunk<T: StreamItem, R: BufRead>(
-        &mut self,
-        alloc: Global,
-        reader: &mut R,
-    ) -> io::Result<()>
+    fn next_chunk<T: StreamItem, R: BufRead>(&mut self, reader: &mut R) -> io::Result<()>
         requires parsed { self.old.buffer.start + self.old.buffer.parsed ≤ vec_len self.old.buffer.bytes }
         requires none { self.old.pending ≡ 0 }
         requires had { (start : Option (List ℕ)) × (ps : List (List Line)) × HasParts T.item_type start (R.remaining reader.old) ps self.old }
@@ -359,24 +294,22 @@ impl ItemReader {
         ensures last { OnOk result (self.new.buffer.last ≡ 0) }
         ensures due { self.old.is_eager ≡ true → OnOk result ((R.remaining reader.new ≡ R.remaining reader.old) ⊎ ReadsLast T.item_type (buffered self.new)) }
     {
-        self.buffer.drain(alloc)?;
-        if self.is_eager {
-            return self.next_shown::<T, R>(reader);
-        }
-        let mut goal = self.buffer.bytes.len().saturating_add(self.min_chunk);
+        self.buffer.drain();
+        let mut goal = self.held().saturating_add(self.min_chunk);
         for _turn in 0..u64::MAX {
-            self.read_more::<R>(reader, goal)?;
-            let text = self.buffer.unparsed();
-            self.scan = Scan::new();
             if self.ended {
-                self.pending = text.len();
+                let text = self.buffer.unparsed();
+                (self.pending, self.scan) = (text.len(), Scan::new());
                 return Ok(());
             }
-            self.pending = last_cut::<T>(text);
+            let looked = self.look::<T>(goal)?;
             if self.pending > 0 {
                 return Ok(());
             }
-            goal = self.buffer.bytes.len().saturating_mul(2);
+            if looked {
+                goal = self.held().saturating_mul(2);
+            }
+            self.read_shown::<R>(reader)?;
         }
         Err(io::Error::from(ErrorKind::Other))
     }
@@ -518,7 +451,7 @@ impl ItemReader {
             self.read_segment::<T, S>(alloc, filename, sink)?;
             return Ok(true);
         }
-        match self.next_chunk::<T, R>(alloc, reader) {
+        match self.next_chunk::<T, R>(reader) {
             Ok(()) => {}
             Err(fault) if fault.kind() == ErrorKind::OutOfMemory => return Err(ParseError::from(
                 AllocError,

@@ -8,6 +8,8 @@ mod cases;
 #[cfg(test)]
 mod flawed;
 #[cfg(test)]
+mod said;
+#[cfg(test)]
 mod typed;
 #[cfg(test)]
 mod written;

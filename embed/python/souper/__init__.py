@@ -111,6 +111,7 @@ from ._values import (
     Value,
     Var,
 )
+from ._widths import NoWidths, WidthFlaw, WidthReason, Widths, widths
 
 __all__ = [
     "Assignment",
@@ -134,6 +135,7 @@ __all__ = [
     "Location",
     "Negative",
     "NoCode",
+    "NoWidths",
     "NonNegative",
     "NonZero",
     "NotUtf8",
@@ -158,6 +160,9 @@ __all__ = [
     "Users",
     "Value",
     "Var",
+    "WidthFlaw",
+    "WidthReason",
+    "Widths",
     "canonical",
     "check",
     "decode",
@@ -172,6 +177,7 @@ __all__ = [
     "records",
     "same",
     "stream",
+    "widths",
     "write",
 ]
 

@@ -9,7 +9,7 @@ from typing import Any
 from ._values import Kind
 
 DONE, REFUSED, OUT_OF_MEMORY, NOT_UTF8 = 0, 1, 3, 4
-SHORT, DIFFERENT, NOT_WELL_FORMED = 5, 6, 8
+SHORT, DIFFERENT, NOT_WELL_FORMED, NO_WIDTHS = 5, 6, 8, 10
 KEY, RENAME, NUL = 1, 2, 4
 
 
@@ -49,6 +49,30 @@ class FlawNumbers(ctypes.Structure):
     ]
 
 
+class WidthNumbers(ctypes.Structure):
+    """The widths of an item, or its first flaw, ``SouperWidths`` of C."""
+
+    status: int
+    location: int
+    reason: int
+    left: int
+    right: int
+    root: int
+    position: int
+    length: int
+
+    _fields_ = [
+        ("status", ctypes.c_uint32),
+        ("location", ctypes.c_uint32),
+        ("reason", ctypes.c_uint32),
+        ("left", ctypes.c_uint32),
+        ("right", ctypes.c_uint32),
+        ("root", ctypes.c_uint32),
+        ("position", ctypes.c_size_t),
+        ("length", ctypes.c_size_t),
+    ]
+
+
 class LocationNumbers(ctypes.Structure):
     """Where a text is at fault, ``SouperLocation`` of C."""
 
@@ -79,6 +103,7 @@ SIGNATURES: dict[str, list[Any]] = {
     "souper_same": [ctypes.c_uint32, *_BYTES, *_BYTES],
     "souper_find": [*_BYTES, *_BYTES, *_ROOM],
     "souper_flaw": [ctypes.c_uint32, *_BYTES],
+    "souper_widths": [ctypes.c_uint32, *_BYTES, ctypes.POINTER(ctypes.c_uint32), ctypes.c_size_t],
     "souper_locate": [ctypes.c_uint32, *_BYTES],
     "souper_hint": [ctypes.c_uint32, ctypes.c_size_t, *_BYTES, *_ROOM],
     "souper_last_cut": [ctypes.c_uint32, *_BYTES],
@@ -88,6 +113,7 @@ SIGNATURES: dict[str, list[Any]] = {
 _RESULTS: dict[str, Any] = {
     "souper_version": ctypes.c_uint32,
     "souper_flaw": FlawNumbers,
+    "souper_widths": WidthNumbers,
     "souper_locate": LocationNumbers,
 }
 

@@ -18,6 +18,7 @@ mod decoder;
 mod encoder;
 mod errors;
 mod flaw;
+mod widths;
 
 use crate::ast::{
     self, Arena, Cycle, Id, LastLines, LeftHandSide, Operand, Replacement, RightHandSide,
@@ -29,6 +30,7 @@ use decoder::{Decode, Decoder};
 use encoder::Encode;
 pub use errors::{Error, NoCode};
 pub use flaw::{Flaw, FlawLocation, FlawReason};
+pub use widths::{WidthFlaw, WidthReason, Widths};
 
 /// A type of item: [`LeftHandSide`], [`RightHandSide`] or [`Replacement`].
 pub trait Item: Decode + Encode + LastLines {
@@ -232,6 +234,30 @@ pub trait Item: Decode + Encode + LastLines {
     /// [`Error::OutOfMemory`].
     fn flaw(&self) -> Result<Option<Flaw>, Error> {
         Ok(self.with_code(|code| Flaw::of_code(Self::KIND, code))?)
+    }
+
+    /// The widths of the item, or its first flaw if it has none.
+    ///
+    /// ```
+    /// use souper_ir::ast::LeftHandSide;
+    /// use souper_ir::code::Item;
+    /// use souper_ir::parse::parse_left_hand_sides_str;
+    ///
+    /// let item = parse_left_hand_sides_str("%x:i8 = var  %y = add %x, 1  infer %y", None)?.remove(0);
+    /// let widths = item.widths()??;
+    /// assert_eq!(widths.results, [8, 8]);
+    /// assert_eq!(widths.operands, [0, 8]);
+    /// let item = parse_left_hand_sides_str("%x:i8 = var  %y:i9 = add %x, 1  infer %y", None)?.remove(0);
+    /// let flaw = item.widths()?.unwrap_err();
+    /// assert_eq!(flaw.to_string(), "statement 1 (%y): i9 and i8 clash");
+    /// # Ok::<(), Box<dyn std::error::Error>>(())
+    /// ```
+    ///
+    /// # Errors
+    ///
+    /// [`Error::NotWellFormed`], with the flaw, or [`Error::OutOfMemory`].
+    fn widths(&self) -> Result<Result<Widths, WidthFlaw>, Error> {
+        self.with_code(|code| Widths::of_code(Self::KIND, code))
     }
 }
 

@@ -14,6 +14,7 @@ pub(crate) const SHORT: u32 = 5;
 pub(crate) const DIFFERENT: u32 = 6;
 pub(crate) const NO_CODE: u32 = 7;
 pub(crate) const NOT_WELL_FORMED: u32 = 8;
+pub(crate) const NO_WIDTHS: u32 = 10;
 
 #[repr(C)]
 #[derive(Clone, Copy, Default)]
@@ -45,6 +46,19 @@ pub(crate) struct Location {
     pub(crate) column: usize,
 }
 
+#[repr(C)]
+#[derive(Clone, Copy, Default)]
+pub(crate) struct Widths {
+    pub(crate) status: u32,
+    pub(crate) location: u32,
+    pub(crate) reason: u32,
+    pub(crate) left: u32,
+    pub(crate) right: u32,
+    pub(crate) root: u32,
+    pub(crate) position: usize,
+    pub(crate) length: usize,
+}
+
 extern "C" {
     fn souper_version() -> u32;
     fn souper_format(kind: u32, text: *const u8, n: usize, out: *mut u8, room: usize) -> Outcome;
@@ -69,6 +83,7 @@ extern "C" {
         room: usize,
     ) -> Outcome;
     fn souper_flaw(kind: u32, code: *const u8, n: usize) -> Flaw;
+    fn souper_widths(kind: u32, code: *const u8, n: usize, out: *mut u32, room: usize) -> Widths;
     fn souper_locate(kind: u32, text: *const u8, n: usize) -> Location;
     fn souper_hint(
         kind: u32,
@@ -178,6 +193,37 @@ pub(crate) fn same(kind: Kind, a: &str, b: &str) -> Outcome {
 pub(crate) fn flaw(kind: Kind, code: &[u8]) -> Flaw {
     // SAFETY: the pointer of a slice is not null.
     unsafe { souper_flaw(kind as u32, code.as_ptr(), code.len()) }
+}
+
+/// The widths of the results and then of the operands of the item that the code begins with, if it has widths.
+pub(crate) fn widths(kind: Kind, code: &[u8]) -> (Widths, Vec<u32>) {
+    // A statement has two widths, and at least 19 bytes of code.
+    let room = code.len() / 9;
+    let mut out = Vec::new();
+    if out.try_reserve_exact(room).is_err() {
+        let found = Widths {
+            status: OUT_OF_MEMORY,
+            ..Widths::default()
+        };
+        return (found, out);
+    }
+    // SAFETY: pointers of slices and vectors are not null. `out` has room for `room` numbers, and overlaps nothing, being borrowed
+    // mutably.
+    let found = unsafe {
+        souper_widths(
+            kind as u32,
+            code.as_ptr(),
+            code.len(),
+            out.as_mut_ptr(),
+            room,
+        )
+    };
+    if found.status == DONE {
+        assert!(found.length <= room);
+        // SAFETY: with this status the call has written `length` numbers.
+        unsafe { out.set_len(found.length) }
+    }
+    (found, out)
 }
 
 pub(crate) fn locate(kind: Kind, text: &str) -> Location {

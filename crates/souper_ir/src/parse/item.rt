@@ -297,8 +297,9 @@ fn items<T: WholeItem, S: Sink<T>>(
     ensures ended { (parser.old.tokens ≡ []) → (parser.old.faulty ≡ false) → (parser.old.failed ≡ None) → IsOkAnd result (λ _. sink.new ≡ sink.old) }
 {
     while let Some(start) = parser.next_start()? {
-        let item = next_item::<T>(parser, kept.statements.take())?;
-        kept.statements = match sink.take_over(item) {
+        let dropped = kept.statements.take();
+        let item = next_item::<T>(parser, dropped)?;
+        kept.statements = match sink.take(item) {
             Ok(statements) => statements,
             Err(_) => return Err(parser.want_memory().into()),
         };
@@ -371,7 +372,7 @@ pub fn parse_into<T: WholeItem, S: Sink<T>>(
 }
 
 /// [`parse_into`] for many short texts, one after the other: the items are read into the memory of items that a sink gave back before
-/// ([`Sink::take_over`]), of this text or of those before it. A memory that is asked for them ([`Memory::with_starts`]) has the offsets of
+/// ([`Sink::take`]), of this text or of those before it. A memory that is asked for them ([`Memory::with_starts`]) has the offsets of
 /// the items of the text then, or, if it is rejected, those of the items before the one that was.
 pub fn parse_with_memory<T: WholeItem, S: Sink<T>>(
     alloc: Global,

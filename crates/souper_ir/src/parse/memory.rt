@@ -49,7 +49,7 @@ impl Kept {
     }
 }
 
-/// The memory of items that a sink gave back ([`Sink::take_over`](crate::parse::Sink::take_over)):
+/// The memory of items that a sink gave back ([`Sink::take`](crate::parse::Sink::take)):
 /// [`parse_with_memory`](crate::parse::parse_with_memory) reads the items of the next text into it.
 ///
 /// It keeps room for at most 64 statements (16 KiB), and at most 64 names of at most 64 bytes; and, if it is asked

@@ -15,29 +15,21 @@ pub trait Sink<T: WholeItem> {
     // Compared with the first sink, the second holds the items.
     ghost holds: { Self → Self → List Item → Type 0 };
 
-    /// Takes the next item. The error is out of memory, and ends the parse; what the sink holds then is not specified.
-    fn take(&mut self, item: T) -> Result<(), AllocError>
+    /// Takes the next item. A sink that drops it may return its statements ([`WholeItem::take_statements`]), so that the next item is read
+    /// into their memory. An item that comes then and is kept may have room for up to 64 statements, and for up to 128 bytes in each name.
+    ///
+    /// The error is out of memory, and ends the parse; what the sink holds then is not specified.
+    fn take(&mut self, item: T) -> Result<Option<Arena<Statement>>, AllocError>
         requires { WellFormed (T.view item) }
         ensures { OnOk result ((first : Self) (items : List Item) → holds first self.old items → holds first self.new (items ++ T.view item ∷ [])) };
-
-    /// Takes the next item, as [`take`](Sink::take) does. A sink that drops it may return its statements
-    /// ([`WholeItem::take_statements`]), so that the next item is read into their memory. An item that comes then and is kept may have
-    /// room for up to 64 statements, and for up to 128 bytes in each name.
-    fn take_over(&mut self, item: T) -> Result<Option<Arena<Statement>>, AllocError>
-        requires { WellFormed (T.view item) }
-        ensures { OnOk result ((first : Self) (items : List Item) → holds first self.old items → holds first self.new (items ++ T.view item ∷ [])) }
-    {
-        self.take(item)?;
-        Ok(None)
-    }
 }
 
 impl<T: WholeItem + Drop> Sink<T> for Vec<T> {
     ghost holds = { λ first v items. map T.view v.items ≡ items };
 
-    fn take(&mut self, item: T) -> Result<(), AllocError> {
+    fn take(&mut self, item: T) -> Result<Option<Arena<Statement>>, AllocError> {
         match self.push(item) {
-            Ok(()) => Ok(()),
+            Ok(()) => Ok(None),
             Err(_) => Err(AllocError),
         }
     }

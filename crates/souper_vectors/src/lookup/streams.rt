@@ -1,12 +1,14 @@
 //! What is written for a stream of left-hand sides.
 
-use souper_find::run::{fill_run, find_run};
+use souper_find::run::fill_run;
 use souper_find::search::{Choice, Search};
 use souper_format::watched::Watched;
+use souper_ir::ast::LeftHandSide;
 use souper_lookup::store::Store;
 use souper_records::layout::{Delimiter, Layout, PLAIN};
 use souper_records::options::ReadOptions;
 use souper_records::output::Output;
+use souper_records::rows::rows_run;
 use std::alloc::Global;
 use std::process::Abort;
 
@@ -57,7 +59,14 @@ fn finds(rt: &impl Abort, alloc: Global, search: Search<'_>, queries: &str, want
         hints: None,
     };
     let mut reader = queries.as_bytes();
-    let status = find_run::<&[u8], &mut Vec<u8>, &mut Vec<u8>>(
+    let status = rows_run::<
+        LeftHandSide,
+        Vec<String>,
+        Search<'_>,
+        &[u8],
+        &mut Vec<u8>,
+        &mut Vec<u8>,
+    >(
         alloc,
         search,
         options,

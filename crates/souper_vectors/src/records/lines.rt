@@ -4,7 +4,9 @@ use souper_format::watched::Watched;
 use souper_ir::ast::LeftHandSide;
 use souper_records::layout::PLAIN;
 use souper_records::options::ReadOptions;
-use souper_records::run::{each_run_with, objects_run_with, uniq_run_with};
+use souper_records::output::Output;
+use souper_records::rows::rows_run;
+use souper_records::run::{each_run_with, uniq_run_with};
 use souper_records::seen::Seen;
 use std::alloc::Global;
 use std::cell::Cell;
@@ -86,9 +88,12 @@ fn run(rt: &impl Abort, alloc: Global, command: Command, options: ReadOptions<'_
         Command::Each => each_run_with::<LeftHandSide, Reader<'_>, Items<'_>, io::Sink>(
             alloc, PLAIN, options, reader, out, err,
         ),
-        Command::Objects => objects_run_with::<LeftHandSide, Reader<'_>, Items<'_>, io::Sink>(
-            alloc, false, options, reader, out, err,
-        ),
+        Command::Objects => {
+            let output = Output::Objects { rename: false };
+            rows_run::<LeftHandSide, String, Output, Reader<'_>, Items<'_>, io::Sink>(
+                alloc, output, options, reader, out, err,
+            )
+        }
         Command::Uniq => uniq_run_with::<LeftHandSide, Reader<'_>, Items<'_>, io::Sink>(
             PLAIN, options, &mut seen, reader, out, err,
         ),

@@ -4,7 +4,9 @@ use souper_format::watched::Watched;
 use souper_hint::Kind;
 use souper_records::layout::{Layout, PLAIN};
 use souper_records::options::ReadOptions;
-use souper_records::run::{each_run_with, objects_run_with, uniq_run_with};
+use souper_records::output::Output;
+use souper_records::rows::rows_run;
+use souper_records::run::{each_run_with, uniq_run_with};
 use souper_records::seen::Seen;
 use souper_stream::StreamItem;
 use std::alloc::Global;
@@ -67,10 +69,12 @@ pub(crate) fn run_to<T: StreamItem + Drop, R: BufRead, W: Write, E: Write>(
             uniq_run_with::<T, R, W, E>(PLAIN, options, &mut seen, reader, out, err)
         }
         Command::Objects { rename, .. } => {
-            objects_run_with::<T, R, W, E>(alloc, rename, options, reader, out, err)
+            let output = Output::Objects { rename };
+            rows_run::<T, String, Output, R, W, E>(alloc, output, options, reader, out, err)
         }
         Command::ObjectsWithHints => {
-            objects_run_with::<T, R, W, E>(alloc, false, options, reader, out, err)
+            let output = Output::Objects { rename: false };
+            rows_run::<T, String, Output, R, W, E>(alloc, output, options, reader, out, err)
         }
     }
 }

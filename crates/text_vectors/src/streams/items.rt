@@ -2,7 +2,7 @@
 use crate::cases::{joined_texts, read_cases};
 use crate::checks::{equal_in, is_text, is_text_in};
 use souper_format::command::Kind;
-use souper_ir::ast::{Item, LeftHandSide, Replacement, RightHandSide};
+use souper_ir::ast::{Arena, Item, LeftHandSide, Replacement, RightHandSide, Statement};
 use souper_ir::parse::{ParseError, ParseErrorKind, Sink, WholeItem, parse_into};
 use souper_stream::{StreamItem, read_chunks_into, read_into};
 use std::alloc::{AllocError, Global};
@@ -20,12 +20,13 @@ struct Texts {
 impl<T: WholeItem + Drop> Sink<T> for Texts {
     ghost holds = { λ first texts items. Unit {0} };
 
-    fn take(&mut self, item: T) -> Result<(), AllocError> {
+    fn take(&mut self, item: T) -> Result<Option<Arena<Statement>>, AllocError> {
         match item.append_text(&mut self.text) {
             Ok(()) => {}
             Err(_) => return Err(AllocError),
         }
-        self.text.push_str("\n--\n")
+        self.text.push_str("\n--\n")?;
+        Ok(None)
     }
 }
 
@@ -132,12 +133,12 @@ struct Few {
 impl<T: WholeItem + Drop> Sink<T> for Few {
     ghost holds = { λ first few items. Unit {0} };
 
-    fn take(&mut self, _item: T) -> Result<(), AllocError> {
+    fn take(&mut self, _item: T) -> Result<Option<Arena<Statement>>, AllocError> {
         if self.left == 0 {
             return Err(AllocError);
         }
         self.left -= 1;
-        Ok(())
+        Ok(None)
     }
 }
 

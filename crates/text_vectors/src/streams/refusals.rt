@@ -3,7 +3,7 @@ use crate::cases::{Case, read_cases};
 use crate::checks::{equal_in, is_text_in};
 use souper_format::command::Kind;
 use souper_format::items::read_items;
-use souper_ir::ast::{LeftHandSide, Replacement, RightHandSide};
+use souper_ir::ast::{Arena, LeftHandSide, Replacement, RightHandSide, Statement};
 use souper_ir::parse::{ParseError, ParseErrorKind, Sink, WholeItem};
 use souper_stream::{StreamItem, read_chunks_into};
 use std::alloc::{AllocError, Global};
@@ -20,9 +20,9 @@ struct Count {
 impl<T: WholeItem + Drop> Sink<T> for Count {
     ghost holds = { λ first count items. Unit {0} };
 
-    fn take(&mut self, _item: T) -> Result<(), AllocError> {
+    fn take(&mut self, _item: T) -> Result<Option<Arena<Statement>>, AllocError> {
         self.items = self.items.saturating_add(1);
-        Ok(())
+        Ok(None)
     }
 }
 

@@ -27,11 +27,7 @@ impl Dropped {
 impl<T: WholeItem + Drop> Sink<T> for Dropped {
     ghost holds = { λ first dropped items. Unit {0} };
 
-    fn take(&mut self, item: T) -> Result<(), AllocError> {
-        self.append(&item)
-    }
-
-    fn take_over(&mut self, mut item: T) -> Result<Option<Arena<Statement>>, AllocError> {
+    fn take(&mut self, mut item: T) -> Result<Option<Arena<Statement>>, AllocError> {
         self.append(&item)?;
         Ok(item.take_statements())
     }

@@ -58,6 +58,35 @@ pub enum FlawReason {
     Unknown(u32),
 }
 
+// The location with that number of `souper.h`.
+pub(super) fn location_of(number: u32, position: usize) -> FlawLocation {
+    match number {
+        1 => FlawLocation::Statement(position),
+        2 => FlawLocation::Infer,
+        3 => FlawLocation::Result,
+        4 => FlawLocation::Cand,
+        number => FlawLocation::Unknown(number),
+    }
+}
+
+// Writes the location, with the name of the statement, if it has one.
+pub(super) fn show_location(
+    location: FlawLocation,
+    name: Option<&str>,
+    f: &mut fmt::Formatter<'_>,
+) -> fmt::Result {
+    match (location, name) {
+        (FlawLocation::Statement(position), Some(name)) => {
+            write!(f, "statement {position} ({name})")
+        }
+        (FlawLocation::Statement(position), None) => write!(f, "statement {position}"),
+        (FlawLocation::Infer, _) => f.write_str("infer line"),
+        (FlawLocation::Result, _) => f.write_str("result line"),
+        (FlawLocation::Cand, _) => f.write_str("cand line"),
+        (FlawLocation::Unknown(number), _) => write!(f, "unknown({number})"),
+    }
+}
+
 impl Flaw {
     // The first flaw of the item that the code begins with; `None` if it is well formed.
     pub(super) fn of_code(kind: Kind, code: &[u8]) -> Result<Option<Self>, canonical::Error> {
@@ -71,13 +100,7 @@ impl Flaw {
 
     // The flaw with these numbers of `souper.h`, of the item that the code begins with.
     fn new(found: raw::Flaw, code: &[u8]) -> Self {
-        let location = match found.location {
-            1 => FlawLocation::Statement(found.position),
-            2 => FlawLocation::Infer,
-            3 => FlawLocation::Result,
-            4 => FlawLocation::Cand,
-            number => FlawLocation::Unknown(number),
-        };
+        let location = location_of(found.location, found.position);
         let reason = match found.reason {
             1 => FlawReason::InvalidName,
             2 => FlawReason::EmptyBits,
@@ -121,16 +144,7 @@ impl fmt::Display for FlawReason {
 
 impl fmt::Display for Flaw {
     fn fmt(&self, f: &mut fmt::Formatter<'_>) -> fmt::Result {
-        match (self.location, &self.name) {
-            (FlawLocation::Statement(position), Some(name)) => {
-                write!(f, "statement {position} ({name})")?;
-            }
-            (FlawLocation::Statement(position), None) => write!(f, "statement {position}")?,
-            (FlawLocation::Infer, _) => f.write_str("infer line")?,
-            (FlawLocation::Result, _) => f.write_str("result line")?,
-            (FlawLocation::Cand, _) => f.write_str("cand line")?,
-            (FlawLocation::Unknown(number), _) => write!(f, "unknown({number})")?,
-        }
+        show_location(self.location, self.name.as_deref(), f)?;
         write!(f, ": {}", self.reason)
     }
 }

@@ -1,6 +1,6 @@
 use Rattle.std.proofs.Common.{Some}
-use Rattle.souper_format.specs.Streams.{IsGiven, stream}
-use Rattle.souper_format.specs.Watching.{has_failed}
+use Rattle.souper_watched.specs.Streams.{IsGiven, stream}
+use Rattle.souper_watched.specs.Watching.{has_failed}
 use Rattle.souper_find.proofs.Filling.{is_written}
 use Rattle.souper_find.proofs.hints.report_hint.Goals as goal
 

@@ -1,6 +1,6 @@
 use Rattle.std.proofs.Common.{rules, ◌≡◌, [], ◌∷◌, ◌++◌}
 use Rattle.std.proofs.KnownBytes.{Keeps-refl}
-use Rattle.souper_format.specs.Streams.{stream}
+use Rattle.souper_watched.specs.Streams.{stream}
 use Rattle.souper_graph.specs.Syntax.Spelling.{replacement}
 use Rattle.souper_records.proofs.Outcomes.{some_parts}
 use Rattle.souper_find.proofs.Filling.{filled, refused_kind, fill_stops, fill_refused}

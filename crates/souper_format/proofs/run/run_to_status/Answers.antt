@@ -1,8 +1,8 @@
 use Rattle.std.proofs.Common.{sym, subst}
 use Rattle.std.proofs.KnownBytes.{Keeps-refl}
 use Rattle.souper_format.specs.Kinds.{item_type_of}
-use Rattle.souper_format.specs.Streams.{stream}
-use Rattle.souper_format.specs.Reading.{ReadAll}
+use Rattle.souper_watched.specs.Streams.{stream}
+use Rattle.souper_format.specs.Runs.{ReadAll}
 use Rattle.souper_format.proofs.RunLemmas.{status_of_error}
 use Rattle.souper_format.proofs.run.run_to_status.Goals as goal
 

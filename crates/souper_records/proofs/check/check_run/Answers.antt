@@ -1,7 +1,8 @@
-use Rattle.std.proofs.Common.{inr, refl}
+use Rattle.std.proofs.Common.{inl, inr, refl}
 use Rattle.souper_records.proofs.Prelude.{stream, texts_of}
+use Rattle.souper_records.specs.Reports.{IsMemoryLine, IsReadFaultLine}
 use Rattle.souper_records.proofs.Outcomes.{parts_mapped, none_reported}
-use Rattle.souper_records.proofs.Checking.{checked_parts, check_other, check_memory, check_fault}
+use Rattle.souper_records.proofs.Checking.{checked_parts, check_other, reported_after}
 use Rattle.souper_records.proofs.check.check_run.Goals as goal
 
 pub returns-in-Ok-true : goal.returns-in-Ok-true
@@ -24,10 +25,10 @@ pub returns-in-Err-Input : goal.returns-in-Err-Input
 returns-in-Err-Input g c =
     let e = rw (c.new-source.ensures.options, c.in-Err-Input.field-0-is) at c.in-Err-Input.ensures.returned in
     let quiet = none_reported _ (stream g.E.Write.contents c.args.err.now c.write_parts.new.err) e.0 e.1.1.are (e.2 refl) e.3 in
-    check_fault g.E.Write.contents c.args.err.now c.write_parts.new.err c.report_read_fault.new.err quiet g.T.Item.item_type c.args.name.now c.args.hints (g.R.Read.remaining c.args.reader.now) (g.R.Read.remaining c.write_parts.new.reader) c.in-Err-Input.fault c.report_read_fault.ensures.reported
+    inl (c.in-Err-Input.fault, reported_after g.E.Write.contents c.args.err.now c.write_parts.new.err c.report_read_fault.new.err quiet (IsReadFaultLine c.in-Err-Input.fault c.args.name.now) c.report_read_fault.ensures.reported)
 
 pub returns : goal.returns
 returns g c =
     let e = rw (c.new-source.ensures.options) at c.in-Err.ensures.returned in
     let quiet = none_reported _ (stream g.E.Write.contents c.args.err.now c.write_parts.new.err) e.0 e.1.1.are (e.2 refl) e.3 in
-    check_memory g.E.Write.contents c.args.err.now c.write_parts.new.err c.report_memory.new.err quiet g.T.Item.item_type c.args.name.now c.args.hints (g.R.Read.remaining c.args.reader.now) (g.R.Read.remaining c.write_parts.new.reader) c.report_memory.ensures.reported
+    inr (reported_after g.E.Write.contents c.args.err.now c.write_parts.new.err c.report_memory.new.err quiet IsMemoryLine c.report_memory.ensures.reported)

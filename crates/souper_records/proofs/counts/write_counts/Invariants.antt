@@ -1,6 +1,6 @@
 -- the records so far were written, but for the last ones
 use Rattle.std.specs.String.{string_bytes}
-use Rattle.souper_format.specs.Watching.{watched_inner}
+use Rattle.souper_watched.specs.Watching.{watched_inner}
 use Rattle.souper_records.proofs.Seeing.{Taken}
 use Rattle.souper_records.proofs.counts.write_counts.Given as goal
 

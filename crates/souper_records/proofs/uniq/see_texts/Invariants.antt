@@ -1,6 +1,6 @@
 -- The texts that are left are to be counted yet.
 use Rattle.std.proofs.Common.{◌≡◌, map, string_bytes}
-use Rattle.souper_records.specs.Counts.{tally_all}
+use Rattle.souper_records.specs.Distinct.{tally_all}
 use Rattle.souper_records.specs.Uniques.{text_count}
 use Rattle.souper_records.proofs.uniq.see_texts.Given as goal
 

@@ -46,8 +46,8 @@ pub next_item-requires : goal.next_item-requires
 next_item-requires g c =
     still_empty g.T.Item.item_type _ c.args.parser.now c.loop-start.parser c.next_start.new.self c.loop-start.invariant.1 c.in_ok-start.ensures.next
 
-pub take_over-requires : goal.take_over-requires
-take_over-requires g c =
+pub take-requires : goal.take-requires
+take-requires g c =
     read_well g.T.Item.item_type _ (g.T.Item.view c.in_ok-item.item) c.args.parser.now c.loop-start.parser c.next_start.new.self c.next_item.new.parser
     c.requires.lexemes c.loop-start.invariant.1 c.in_ok-start.ensures.next c.in_ok-item.ensures.ok
 
@@ -66,7 +66,7 @@ loop-start-preserved g c =
     let took = read_behind k _ item c.args.parser.now c.loop-start.parser c.next_start.new.self c.next_item.new.parser so.1 c.in_ok-start.ensures.next c.in_ok-item.ensures.ok in (
       so.0 ++ item ∷ [],
       goes_on (item_series k) _ so.0 item c.args.parser.now c.loop-start.parser c.next_item.new.parser refl so.1 took,
-      takes_one g.S.Sink.holds so.0 item c.args.sink.now c.loop-start.sink c.take_over.new.self so.2 c.in-Ok.ensures,
+      takes_one g.S.Sink.holds so.0 item c.args.sink.now c.loop-start.sink c.take.new.self so.2 c.in-Ok.ensures,
       λ e. absurd (omega (arith, ap length e, length-append so.0 (item ∷ []))),
       so.4 ++ c.in-Some.start ∷ [],
       begun k _ _ item c.in-Some.start c.args.parser.now c.loop-start.parser c.next_item.new.parser so.1 took so.5 (rw c.in-Some.is at c.in_ok-start.ensures.start),

@@ -2,7 +2,7 @@ use Rattle.std.proofs.Common.{◌≡◌, ◌-◌, min, map, length, take, drop, 
 use Rattle.std.proofs.lemmas.List.{take_rest, drop_min}
 use Rattle.std.proofs.lemmas.Result.{on_ok_weaker}
 use Rattle.souper_records.proofs.Prelude.{keys, index_map_len, watched_inner}
-use Rattle.souper_records.specs.Counts.{tally_all}
+use Rattle.souper_records.specs.Distinct.{tally_all}
 use Rattle.souper_records.specs.Uniques.{text_count}
 use Rattle.souper_records.specs.Outcomes.{items_of}
 use Rattle.souper_records.proofs.Outcomes.{items_more}

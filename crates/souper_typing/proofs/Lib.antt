@@ -1,0 +1,10 @@
+mod Bools
+mod Taken
+mod Reporting
+mod Stepping
+mod Ends
+mod Floats
+mod Holding
+mod ObjectRows
+mod FlawReports
+mod Kept

@@ -1,0 +1,4 @@
+pub mod Messages
+pub mod Lines
+pub mod Hints
+pub mod Says
