@@ -582,6 +582,18 @@ did you mean 'select'?
 infer %y
 ---
 write 'uadd.sat' (unsigned) or 'sadd.sat' (signed)
+=== lhs product with overflow without a sign
+%x = var
+%y = mul.with.overflow %x, 1
+infer %y
+---
+write 'umul.with.overflow' (unsigned) or 'smul.with.overflow' (signed)
+=== lhs sum with overflow without a sign
+%x = var
+%y = add.with.overflow %x, 1
+infer %y
+---
+write 'uadd.with.overflow' (unsigned) or 'sadd.with.overflow' (signed)
 === lhs not
 %x = var
 %y = not %x
@@ -645,6 +657,18 @@ a type comes after the name that is defined or a constant: '%y:i32 = add %x, 1:i
 infer %y
 ---
 a type comes after the name that is defined or a constant: '%y:i32 = add %x, 1:i32'
+=== lhs type after a constant without a colon
+%x = var
+%y = add 1i8, %x
+infer %y
+---
+a type comes after the name that is defined or a constant: '%y:i32 = add %x, 1:i32'
+=== lhs name of a type without its percent sign
+%i8 = var
+%y = add i8, 1
+infer %y
+---
+did you mean '%i8'?
 === lhs type of an operand of a path condition
 %x = var
 pc %x:i1 1
@@ -1210,6 +1234,14 @@ infer %x
 %y
 ---
 
+=== lhs number at the beginning of a line
+%x = var
+infer %x
+
+2: %y = var
+infer %y
+---
+
 === lhs comma after the last operand
 %x = var
 %y = add %x, 1:i8,
@@ -1408,6 +1440,12 @@ this is a byte order mark (U+FEFF); remove it
 infer %x
 ---
 a range ends with ')', as in '(range=[0,8))'
+=== lhs bracket outside a range
+%x = var
+%y = add %x, 1]
+infer %y
+---
+
 === lhs constant as a right side
 %x = 5
 infer %x

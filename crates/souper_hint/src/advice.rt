@@ -24,7 +24,7 @@ fn at_character<'a>(scene: &Scene<'a>) -> Option<Hint<'a>>
     if text.starts_with('#') || text.starts_with("//") || text.starts_with("/*") {
         return Some(Hint::Rule(Rule::Comment));
     }
-    if text.starts_with(']') {
+    if text.starts_with(']') && scene.statement().has_attributes {
         return Some(Hint::Rule(Rule::Range));
     }
     if text.starts_with('\u{feff}') {

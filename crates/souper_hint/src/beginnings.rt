@@ -50,7 +50,7 @@ pub(crate) fn at_beginning<'a>(scene: &Scene<'a>) -> Option<Hint<'a>>
     if token == "," {
         return comma_after(scene);
     }
-    if is_operand(token) {
+    if is_operand(token) && !scene.is_on_new_line() {
         return too_many(scene);
     }
     if scene.has_type(0) || token == "to" || is_type(token) {

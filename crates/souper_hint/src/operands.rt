@@ -81,6 +81,7 @@ pub(crate) fn at_comma<'a>(scene: &Scene<'a>) -> Option<Hint<'a>>
     match scene.token() {
         Some(_) if scene.has_type(0) => Some(Hint::Rule(Rule::Type)),
         Some(":") => None,
+        Some(token) if is_type(token) && !scene.is_on_new_line() => Some(Hint::Rule(Rule::Type)),
         Some(token) if is_operand(token) && !scene.is_on_new_line() => None,
         _ => too_few(scene),
     }
@@ -199,7 +200,6 @@ pub(crate) fn at_operand<'a>(scene: &Scene<'a>) -> Option<Hint<'a>>
             Some(Hint::NoMark { word, mark: token })
         }
         _ if !is_word(token) => None,
-        _ if is_type(token) => Some(Hint::Rule(Rule::Type)),
         _ => at_word(scene, word, token),
     }
 }

@@ -73,6 +73,8 @@ pub(crate) fn in_place_of<'a>(word: &str, next: &str) -> Option<Hint<'a>>
         "rem" | "mod" => Some(Hint::Either("urem", "srem")),
         "shr" => Some(Hint::Either("lshr", "ashr")),
         "ext" => Some(Hint::Either("zext", "sext")),
+        "add.with.overflow" => Some(Hint::Either("uadd.with.overflow", "sadd.with.overflow")),
+        "mul.with.overflow" => Some(Hint::Either("umul.with.overflow", "smul.with.overflow")),
         "add.sat" => Some(Hint::Either("uadd.sat", "sadd.sat")),
         "sub.sat" => Some(Hint::Either("usub.sat", "ssub.sat")),
         "sub.with.overflow" => Some(Hint::Either("usub.with.overflow", "ssub.with.overflow")),
