@@ -121,6 +121,45 @@ bockpc %b 0 1 1
 infer %b
 ---
 did you mean 'blockpc'?
+=== lhs letter before pc
+%b = block 2
+bpc %b 0 1 1
+infer 1
+---
+
+=== lhs equals sign after infer with a capital letter
+%x = var
+Infer = %x
+---
+did you mean 'infer'?
+=== rhs type after result
+%x = var
+result:i8 %x
+---
+a type comes after the name that is defined or a constant: '%y:i32 = add %x, 1:i32'
+=== rhs colon after result
+%x = var
+result: %x
+---
+
+=== lhs colon after pc
+%x = var
+pc: %x 1
+infer %x
+---
+'pc' has no ':' between its operands
+=== lhs colon in a path condition
+%x = var
+pc %x : 1
+infer %x
+---
+'pc' has no ':' between its operands
+=== lhs colon between operands
+%x = var
+%y = add %x: %x
+infer %y
+---
+
 === lhs last line of another kind
 %x = var
 result %x
@@ -149,6 +188,66 @@ did you mean 'nonZero'?
 === lhs word like no attribute
 %x = var (foo)
 infer %x
+---
+
+=== lhs attribute after another one's prefix
+%x = var (knownNegative)
+infer %x
+---
+
+=== lhs attribute after no in place of has
+%x = var (noExternalUses)
+infer %x
+---
+
+=== lhs attribute after no
+%x = var (noPowerOfTwo)
+infer %x
+---
+
+=== lhs attribute after un
+%x = var (unNegative)
+infer %x
+---
+
+=== lhs attribute after a letter
+%x = var (nNegative)
+infer %x
+---
+
+=== lhs attribute after a letter that is doubled
+%x = var (nnegative)
+infer %x
+---
+
+=== lhs short attribute after a letter
+%x = var (nrange)
+infer %x
+---
+
+=== lhs known bits after un
+%x = var (unknownBits=01)
+infer %x
+---
+
+=== lhs part of two attributes
+%x = var (knownZero=01)
+infer %x
+---
+
+=== lhs attribute with a letter missing
+%x = var (signBit=2)
+infer %x
+---
+did you mean 'signBits'?
+=== lhs attribute with another letter
+%x = var (powerOfTwa)
+infer %x
+---
+did you mean 'powerOfTwo'?
+=== lhs attribute of a root after un
+%x = var
+infer %x (undemandedBits=1)
 ---
 
 === lhs misspelt attribute of a root
@@ -225,6 +324,76 @@ infer %11
 === lhs number where names are
 %x10 = var
 infer %10
+---
+
+=== lhs name with another number
+%x1 = var
+%x2 = var
+infer %x3
+---
+
+=== lhs name without its number
+%value1 = var
+infer %value
+---
+
+=== lhs name with a number more
+%value = var
+infer %value1
+---
+
+=== lhs name with a digit doubled
+%value1 = var
+infer %value11
+---
+
+=== lhs name with another first letter
+%lhs = var
+infer %rhs
+---
+
+=== lhs name with another first letter and a number
+%zext1 = var
+infer %sext1
+---
+
+=== lhs name of three letters with another last one
+%sum = var
+infer %sun
+---
+did you mean '%sum'?
+=== lhs name of two letters with another last one
+%xa = var
+infer %xb
+---
+
+=== lhs name like two others
+%foobar = var
+%foobaz = var
+infer %foobat
+---
+
+=== lhs name like one other
+%foobar = var
+infer %foobat
+---
+did you mean '%foobar'?
+=== lhs letters of one letter more
+%xa = var
+infer %x
+---
+
+=== lhs letter of a name doubled
+%low = var
+%lowx = var
+infer %llow
+---
+did you mean '%low'?
+=== lhs name of a block with another number
+%blk = block 2
+%blk2 = block 2
+blockpc %blk3 0 1 1
+infer 1
 ---
 
 === lhs name of its own definition
@@ -323,6 +492,60 @@ write 'ult' with the operands swapped
 infer %y
 ---
 write the comparison alone: 'eq', 'ne', 'ult', 'slt', 'ule' or 'sle'
+=== lhs greater as in LLVM
+%x = var
+%y = icmp ugt i8 %x, 1
+infer %y
+---
+write 'ult' with the operands swapped
+=== lhs greater as in LLVM in capitals
+%x = var
+%y = ICMP SGE i8 %x, 1
+infer %y
+---
+write 'sle' with the operands swapped
+=== lhs greater after a point
+%x = var
+%y = icmp.sgt %x, 1
+infer %y
+---
+write 'slt' with the operands swapped
+=== lhs greater without a sign as in LLVM
+%x = var
+%y = icmp gt %x, 1
+infer %y
+---
+write 'ult' (unsigned) or 'slt' (signed) with the operands swapped
+=== lhs misspelt comparison as in LLVM
+%x = var
+%y = imcp eq %x, 1
+infer %y
+---
+write the comparison alone: 'eq', 'ne', 'ult', 'slt', 'ule' or 'sle'
+=== lhs misspelt greater as in LLVM
+%x = var
+%y = imcp ugt %x, 1
+infer %y
+---
+write 'ult' with the operands swapped
+=== lhs letter of a comparison doubled
+%x = var
+%y = ugtt %x, 1
+infer %y
+---
+write 'ult' with the operands swapped
+=== lhs letters of a comparison swapped
+%x = var
+%y = gut %x, 1
+infer %y
+---
+write 'ult' with the operands swapped
+=== lhs letter missing in ult or ugt
+%x = var
+%y = ut %x, 1
+infer %y
+---
+
 === lhs not in capitals
 %x = var
 %y = NOT %x
@@ -359,6 +582,18 @@ did you mean 'select'?
 infer %y
 ---
 write 'uadd.sat' (unsigned) or 'sadd.sat' (signed)
+=== lhs product with overflow without a sign
+%x = var
+%y = mul.with.overflow %x, 1
+infer %y
+---
+write 'umul.with.overflow' (unsigned) or 'smul.with.overflow' (signed)
+=== lhs sum with overflow without a sign
+%x = var
+%y = add.with.overflow %x, 1
+infer %y
+---
+write 'uadd.with.overflow' (unsigned) or 'sadd.with.overflow' (signed)
 === lhs not
 %x = var
 %y = not %x
@@ -377,6 +612,12 @@ there is no 'neg'; write 'sub' from 0
 infer %y
 ---
 write 'udiv' (unsigned) or 'sdiv' (signed)
+=== lhs remainder by another word
+%x = var
+%y = mod %x, 2
+infer %y
+---
+write 'urem' (unsigned) or 'srem' (signed)
 === lhs shift without a sign
 %x = var
 %y = shr %x, 2
@@ -416,6 +657,18 @@ a type comes after the name that is defined or a constant: '%y:i32 = add %x, 1:i
 infer %y
 ---
 a type comes after the name that is defined or a constant: '%y:i32 = add %x, 1:i32'
+=== lhs type after a constant without a colon
+%x = var
+%y = add 1i8, %x
+infer %y
+---
+a type comes after the name that is defined or a constant: '%y:i32 = add %x, 1:i32'
+=== lhs name of a type without its percent sign
+%i8 = var
+%y = add i8, 1
+infer %y
+---
+did you mean '%i8'?
 === lhs type of an operand of a path condition
 %x = var
 pc %x:i1 1
@@ -443,6 +696,18 @@ did you mean 'subnw'?
 === lhs flag after an instruction with both
 %x = var
 %y = mulnw nsw %x, 1
+infer %y
+---
+
+=== lhs one flag twice
+%x = var
+%y = add nuw nuw %x, 1
+infer %y
+---
+did you mean 'addnuw'?
+=== lhs flag after an instruction with the same
+%x = var
+%y = addnuw nuw %x, 1
 infer %y
 ---
 
@@ -485,18 +750,29 @@ numbers are decimal: 2
 infer %x (demandedBits=0x1)
 ---
 
+=== lhs binary number in place of known bits
+%x = var (knownBits=0b11)
+infer %x
+---
+
 === lhs hex number of 72 bits
 %x = var
 %y = and %x, 0xffffffffffffffffff
 infer %y
 ---
 numbers are decimal: 4722366482869645213695
-=== lhs hex number of 128 bits
+=== lhs greatest constant as a hex number
 %x = var
-%y = and %x, 0xffffffffffffffffffffffffffffffff
+%y = and %x, 0x7fffffffffffffffffffffffffffffff
 infer %y
 ---
-numbers are decimal: 340282366920938463463374607431768211455
+numbers are decimal: 170141183460469231731687303715884105727
+=== lhs hex number beyond the greatest constant
+%x = var
+%y = and %x, 0x80000000000000000000000000000000
+infer %y
+---
+numbers are decimal
 === lhs hex number of 129 bits
 %x = var
 %y = and %x, 0x100000000000000000000000000000000
@@ -579,6 +855,25 @@ write '0:i1' for 'false'
 infer %x
 ---
 write '1:i1' for 'true'
+=== lhs misspelt false
+%x = var
+%y = eq %x, fasle
+infer %y
+---
+write '0:i1' for 'false'
+=== lhs misspelt true as a name
+%x = var
+%tru = var
+%y = eq %x, tru
+infer %y
+---
+did you mean '%tru'?
+=== lhs null
+%x = var
+%y = eq %x, null
+infer %y
+---
+
 === lhs comment after a number sign
 # one
 %x = var
@@ -600,11 +895,28 @@ a comment begins with ';'
 infer %x
 ---
 
+=== lhs comment after two hyphens
+%x = var
+-- one
+infer %x
+---
+
 === lhs definition without its percent sign
 x = var
 infer %x
 ---
 did you mean '%x'?
+=== lhs definition of a number without its percent sign
+%x = var
+1 = add %x, 0
+infer %1
+---
+did you mean '%1'?
+=== lhs attribute after infer without parentheses
+%x = var
+infer %x demandedBits=1111
+---
+
 === lhs typed definition without its percent sign
 %y = var
 x:i8 = var
@@ -819,6 +1131,30 @@ pc %x 1 1
 infer %x
 ---
 'pc' takes 2 operands
+=== lhs blockpc with three operands
+%b = block 2
+blockpc %b 0 1
+infer 1
+---
+'blockpc' takes 4 operands
+=== lhs blockpc with five operands
+%b = block 2
+blockpc %b 0 1 1 1
+infer 1
+---
+'blockpc' takes 4 operands
+=== lhs block of no number
+%b = block
+%p = phi %b, 1
+infer %p
+---
+'block' takes 1 operand
+=== lhs block of two numbers
+%b = block 2, 3
+%p = phi %b, 1, 2
+infer %p
+---
+'block' takes 1 operand
 === lhs infer line of two names
 %x = var
 infer %x, %x
@@ -896,6 +1232,14 @@ infer %y
 %x = var
 infer %x
 %y
+---
+
+=== lhs number at the beginning of a line
+%x = var
+infer %x
+
+2: %y = var
+infer %y
 ---
 
 === lhs comma after the last operand
@@ -1096,6 +1440,12 @@ this is a byte order mark (U+FEFF); remove it
 infer %x
 ---
 a range ends with ')', as in '(range=[0,8))'
+=== lhs bracket outside a range
+%x = var
+%y = add %x, 1]
+infer %y
+---
+
 === lhs constant as a right side
 %x = 5
 infer %x

@@ -24,7 +24,7 @@ fn at_character<'a>(scene: &Scene<'a>) -> Option<Hint<'a>>
     if text.starts_with('#') || text.starts_with("//") || text.starts_with("/*") {
         return Some(Hint::Rule(Rule::Comment));
     }
-    if text.starts_with(']') {
+    if text.starts_with(']') && scene.statement().has_attributes {
         return Some(Hint::Rule(Rule::Range));
     }
     if text.starts_with('\u{feff}') {
@@ -50,15 +50,15 @@ fn hint_at<'a>(
     }
     match message {
         Message::RightSide => at_right_side(alloc, scene),
-        Message::Beginning => at_beginning(alloc, scene),
+        Message::Beginning => Ok(at_beginning(scene)),
         Message::Comma => Ok(at_comma(scene)),
         Message::Operand => Ok(at_operand(scene)),
         Message::Name => Ok(at_name(scene)),
         Message::Type => Ok(at_type(scene)),
-        Message::Attribute => at_attribute(alloc, scene),
-        Message::RootAttribute => at_root_attribute(alloc, scene),
-        Message::UnknownName => unknown_name(alloc, scene),
-        Message::UnknownBlock => unknown_block(alloc, scene),
+        Message::Attribute => Ok(at_attribute(scene)),
+        Message::RootAttribute => Ok(at_root_attribute(scene)),
+        Message::UnknownName => Ok(unknown_name(scene)),
+        Message::UnknownBlock => Ok(unknown_block(scene)),
         Message::Redefinition => Ok(redefinition(scene)),
         Message::Character => Ok(at_character(scene)),
         Message::Equals => Ok(more_than_enough(scene)),

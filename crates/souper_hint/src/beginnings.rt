@@ -1,15 +1,14 @@
 //! Hints where a statement or a last line should begin.
-ghost use Rattle.std.specs.Prelude.{IfOk, IfSome};
+ghost use Rattle.std.specs.Prelude.{IfSome};
 ghost use Rattle.souper_hint.specs.Hints.{SuggestsFrom};
 
 use crate::hints::{Hint, LastLine, Rule};
 use crate::kinds::Kind;
-use crate::nearest::nearest_word;
 use crate::operands::{comma_after, too_many};
 use crate::scene::Scene;
-use crate::tokens::{is_after_name, is_operand, is_type, is_word};
+use crate::slips::meant_word;
+use crate::tokens::{is_number, is_operand, is_type, is_word};
 use crate::words::{CONDITIONS, is_beginning};
-use std::alloc::{AllocError, Global};
 
 // The words that begin this last line.
 fn words_of(last_line: LastLine) -> &'static str {
@@ -41,32 +40,25 @@ fn missing_line<'a>(scene: &Scene<'a>, word: &str) -> Option<Hint<'a>>
 }
 
 /// A hint where a statement or a last line should begin.
-pub(crate) fn at_beginning<'a>(
-    alloc: Global,
-    scene: &Scene<'a>,
-) -> Result<Option<Hint<'a>>, AllocError>
-    ensures { IfOk result (λ hint. IfSome hint (SuggestsFrom scene.now.front.now)) }
+pub(crate) fn at_beginning<'a>(scene: &Scene<'a>) -> Option<Hint<'a>>
+    ensures { IfSome result (SuggestsFrom scene.now.front.now) }
 {
-    let Some(token) = scene.token() else {
-        return Ok(None);
-    };
+    let token = scene.token()?;
+    if scene.is_in_heading(1) && (is_word(token) || is_number(token)) {
+        return Some(Hint::Lacks('%', token));
+    }
     if token == "," {
-        return Ok(comma_after(scene));
+        return comma_after(scene);
     }
-    if is_operand(token) {
-        return Ok(too_many(scene));
+    if is_operand(token) && !scene.is_on_new_line() {
+        return too_many(scene);
     }
-    if token == ":" || token == "to" || is_type(token) {
-        return Ok(Some(Hint::Rule(Rule::Type)));
+    if scene.has_type(0) || token == "to" || is_type(token) {
+        return Some(Hint::Rule(Rule::Type));
     }
-    if !is_word(token) {
-        return Ok(None);
+    if is_beginning(token) {
+        return missing_line(scene, token);
     }
-    if is_beginning(token) && !scene.is_in_heading(1) {
-        return Ok(missing_line(scene, token));
-    }
-    if scene.next_token().is_some_and(is_after_name) {
-        return Ok(Some(Hint::Lacks('%', token)));
-    }
-    nearest_word(alloc, token, &[words_of(scene.last_line()), CONDITIONS])
+    let words = words_of(scene.last_line());
+    Some(Hint::Word(meant_word(token, &[words, CONDITIONS])?))
 }

@@ -5,6 +5,7 @@ ghost use Rattle.souper_hint.specs.Hints.{SuggestsFrom};
 use crate::hints::{Hint, Rule};
 use crate::right_sides::in_place_of;
 use crate::scene::Scene;
+use crate::slips::meant_word;
 use crate::tokens::{is_operand, is_type, is_word};
 use crate::words::{RIGHT_SIDES, is_beginning, is_right_side, operand_count};
 
@@ -78,7 +79,9 @@ pub(crate) fn at_comma<'a>(scene: &Scene<'a>) -> Option<Hint<'a>>
     ensures { IfSome result (SuggestsFrom scene.now.front.now) }
 {
     match scene.token() {
-        Some(":") => Some(Hint::Rule(Rule::Type)),
+        Some(_) if scene.has_type(0) => Some(Hint::Rule(Rule::Type)),
+        Some(":") => None,
+        Some(token) if is_type(token) && !scene.is_on_new_line() => Some(Hint::Rule(Rule::Type)),
         Some(token) if is_operand(token) && !scene.is_on_new_line() => None,
         _ => too_few(scene),
     }
@@ -89,16 +92,13 @@ fn is_flag(word: &str) -> bool {
     word == "nsw" || word == "nuw"
 }
 
-// The instruction of this word with a flag, which another flag comes before or after.
-fn with_both_flags(word: &str, has_more: bool) -> Option<&'static str> {
-    let stem = word
-        .strip_suffix("nsw")
-        .or(word.strip_suffix("nuw"))
-        .unwrap_or(word);
-    if has_more || stem.len() < word.len() {
-        joined(stem, "nw")
-    } else {
-        None
+// The instruction of this word with a flag, which the other flag comes before or after.
+fn with_both_flags(word: &str, flag: &str, next: &str) -> Option<&'static str> {
+    let other = if flag == "nsw" { "nuw" } else { "nsw" };
+    match word.strip_suffix(other) {
+        Some(stem) => joined(stem, "nw"),
+        None if next == other => joined(word, "nw"),
+        None => None,
     }
 }
 
@@ -119,6 +119,11 @@ fn has_commas(scene: &Scene<'_>) -> bool {
     !is_beginning(scene.statement().word)
 }
 
+// The bit that the word stands for in other languages, also if it is misspelt.
+fn bit(word: &str) -> Option<bool> {
+    Some(meant_word(word, &["true false"])? == "true")
+}
+
 // A hint at a word in place of a name.
 fn named<'a>(scene: &Scene<'a>, word: &'a str) -> Option<Hint<'a>>
     ensures { IfSome result (SuggestsFrom scene.now.front.now) }
@@ -131,10 +136,11 @@ fn named<'a>(scene: &Scene<'a>, word: &'a str) -> Option<Hint<'a>>
     }
     match word {
         "undef" | "poison" => return Some(Hint::Rule(Rule::Undefined)),
-        "infer" | "result" | "pc" | "cand" | "blockpc" | "true" | "false" => return None,
+        "null" => return None,
+        _ if is_beginning(word) || bit(word).is_some() => return None,
         _ => {}
     }
-    if is_right_side(word) || in_place_of(word).is_some() {
+    if is_right_side(word) || in_place_of(word, "").is_some() {
         return Some(Hint::Rule(Rule::Instruction));
     }
     if scene.has_next_on_line() && scene.next_token().is_some_and(is_operand) && has_commas(scene) {
@@ -148,12 +154,17 @@ fn at_word<'a>(scene: &Scene<'a>, front: &str, word: &'a str) -> Option<Hint<'a>
     ensures { IfSome result (SuggestsFrom scene.now.front.now) }
 {
     if is_flag(word)
-        && let Some(word) = with_both_flags(front, scene.next_token().is_some_and(is_flag))
+        && let Some(word) = with_both_flags(front, word, scene.next_token().unwrap_or(""))
     {
         return Some(Hint::Word(word));
     }
     if let Some(word) = joined(front, word) {
         return Some(Hint::Word(word));
+    }
+    if scene.definition(word).is_none()
+        && let Some(bit) = bit(word)
+    {
+        return Some(Hint::Bit(bit));
     }
     named(scene, word)
 }
@@ -183,13 +194,12 @@ pub(crate) fn at_operand<'a>(scene: &Scene<'a>) -> Option<Hint<'a>>
         return Some(hint);
     }
     match token {
-        "," | "=" if word == "pc" || word == "blockpc" => Some(Hint::NoMark { word, mark: token }),
-        "=" if word == "cand" => Some(Hint::NoMark { word, mark: token }),
-        ":" => Some(Hint::Rule(Rule::Type)),
-        _ if token.eq_ignore_ascii_case("true") => Some(Hint::Bit(true)),
-        _ if token.eq_ignore_ascii_case("false") => Some(Hint::Bit(false)),
+        _ if scene.has_type(0) => Some(Hint::Rule(Rule::Type)),
+        "," if word == "pc" || word == "blockpc" => Some(Hint::NoMark { word, mark: token }),
+        ":" | "=" if word == "pc" || word == "blockpc" || word == "cand" => {
+            Some(Hint::NoMark { word, mark: token })
+        }
         _ if !is_word(token) => None,
-        _ if is_type(token) => Some(Hint::Rule(Rule::Type)),
         _ => at_word(scene, word, token),
     }
 }

@@ -3,10 +3,14 @@ ghost use Rattle.std.specs.Prelude.{ℕ, List, IfOk, IfSome};
 ghost use Rattle.souper_hint.specs.Hints.{SuggestsFrom};
 
 use crate::hints::{Hint, Rule};
-use crate::instructions::meant;
 use crate::scene::Scene;
+use crate::slips::meant_word;
 use crate::tokens::{is_after_name, is_operand, is_type, is_word};
+use crate::words::{RIGHT_SIDES, has_word};
 use std::alloc::{AllocError, Global};
+
+// Words of other languages, which a slip would turn into ones of another meaning.
+const UNLIKE: &str = "addw subw mulw ash lsh set swap";
 
 // The instruction that another language's word stands for.
 fn other_name(word: &str) -> Option<&'static str> {
@@ -23,8 +27,8 @@ fn other_name(word: &str) -> Option<&'static str> {
     }
 }
 
-/// What stands for a word of LLVM or of another language, given in small letters.
-pub(crate) fn in_place_of<'a>(word: &str) -> Option<Hint<'a>>
+// What stands for a comparison that the grammar lacks.
+fn in_place_of_comparison<'a>(word: &str) -> Option<Hint<'a>>
     ensures { (text : List ℕ) → IfSome result (SuggestsFrom text) }
 {
     match word {
@@ -32,23 +36,48 @@ pub(crate) fn in_place_of<'a>(word: &str) -> Option<Hint<'a>>
         "uge" | "ugte" => Some(Hint::Swapped("ule")),
         "sgt" => Some(Hint::Swapped("slt")),
         "sge" | "sgte" => Some(Hint::Swapped("sle")),
+        "lt" => Some(Hint::Either("ult", "slt")),
+        "le" | "lte" => Some(Hint::Either("ule", "sle")),
+        "gt" => Some(Hint::EitherSwapped("ult", "slt")),
+        "ge" | "gte" => Some(Hint::EitherSwapped("ule", "sle")),
+        _ => None,
+    }
+}
+
+// What stands for LLVM's `icmp`, which has its comparison after a point or as the next token.
+fn in_place_of_icmp<'a>(word: &str, next: &str) -> Option<Hint<'a>>
+    ensures { (text : List ℕ) → IfSome result (SuggestsFrom text) }
+{
+    match in_place_of_comparison(word.strip_prefix("icmp.").unwrap_or(next)) {
+        Some(hint) => Some(hint),
+        None => Some(Hint::Rule(Rule::Comparison)),
+    }
+}
+
+/// What stands for a word of LLVM or of another language, given in small letters with the token after it.
+pub(crate) fn in_place_of<'a>(word: &str, next: &str) -> Option<Hint<'a>>
+    ensures { (text : List ℕ) → IfSome result (SuggestsFrom text) }
+{
+    if word == "cmp" || word.starts_with("icmp") {
+        return in_place_of_icmp(word, next);
+    }
+    if let Some(hint) = in_place_of_comparison(word) {
+        return Some(hint);
+    }
+    match word {
         "not" => Some(Hint::Rule(Rule::Not)),
         "neg" => Some(Hint::Rule(Rule::Negation)),
         "true" => Some(Hint::Bit(true)),
         "false" => Some(Hint::Bit(false)),
         "div" => Some(Hint::Either("udiv", "sdiv")),
-        "rem" => Some(Hint::Either("urem", "srem")),
+        "rem" | "mod" => Some(Hint::Either("urem", "srem")),
         "shr" => Some(Hint::Either("lshr", "ashr")),
         "ext" => Some(Hint::Either("zext", "sext")),
+        "add.with.overflow" => Some(Hint::Either("uadd.with.overflow", "sadd.with.overflow")),
+        "mul.with.overflow" => Some(Hint::Either("umul.with.overflow", "smul.with.overflow")),
         "add.sat" => Some(Hint::Either("uadd.sat", "sadd.sat")),
         "sub.sat" => Some(Hint::Either("usub.sat", "ssub.sat")),
         "sub.with.overflow" => Some(Hint::Either("usub.with.overflow", "ssub.with.overflow")),
-        "lt" => Some(Hint::Either("ult", "slt")),
-        "le" | "lte" => Some(Hint::Either("ule", "sle")),
-        "gt" => Some(Hint::EitherSwapped("ult", "slt")),
-        "ge" | "gte" => Some(Hint::EitherSwapped("ule", "sle")),
-        "cmp" => Some(Hint::Rule(Rule::Comparison)),
-        _ if word.starts_with("icmp") => Some(Hint::Rule(Rule::Comparison)),
         _ => match other_name(word) {
             Some(instruction) => Some(Hint::Word(instruction)),
             None => None,
@@ -57,16 +86,19 @@ pub(crate) fn in_place_of<'a>(word: &str) -> Option<Hint<'a>>
 }
 
 // The hint of a word that is none of the grammar.
-fn of_word<'a>(alloc: Global, word: &str) -> Result<Option<Hint<'a>>, AllocError>
-    ensures { (text : List ℕ) → IfOk result (λ hint. IfSome hint (SuggestsFrom text)) }
+fn of_word<'a>(word: &str, next: &str) -> Option<Hint<'a>>
+    ensures { (text : List ℕ) → IfSome result (SuggestsFrom text) }
 {
-    let word = word.to_ascii_lowercase(alloc)?;
-    match in_place_of(word.as_str()) {
-        Some(hint) => Ok(Some(hint)),
-        None => match meant(word.as_str()) {
-            Some(instruction) => Ok(Some(Hint::Word(instruction))),
-            None => Ok(None),
-        },
+    if let Some(hint) = in_place_of(word, next) {
+        return Some(hint);
+    }
+    if has_word(UNLIKE, word) {
+        return None;
+    }
+    let found = meant_word(word, &RIGHT_SIDES)?;
+    match in_place_of(found, next) {
+        Some(hint) => Some(hint),
+        None => Some(Hint::Word(found)),
     }
 }
 
@@ -92,5 +124,7 @@ pub(crate) fn at_right_side<'a>(
     if is_type(token) {
         return Ok(Some(Hint::Rule(Rule::Type)));
     }
-    of_word(alloc, token)
+    let word = token.to_ascii_lowercase(alloc)?;
+    let next = scene.next_token().unwrap_or("").to_ascii_lowercase(alloc)?;
+    Ok(of_word(word.as_str(), next.as_str()))
 }

@@ -55,16 +55,28 @@ impl<'a> Scene<'a> {
         Some(tokens_of(self.back).nth(1)?.text)
     }
 
-    /// Whether the token of this index, from the one at fault on, comes after a name that is defined: `=` and a word, or `:` and a type.
-    pub(crate) fn is_in_heading(&self, index: usize) -> bool {
-        let mark = tokens_of(self.back).nth(index);
-        let next = tokens_of(self.back).nth(index.saturating_add(1));
-        match (mark, next) {
-            (Some(mark), Some(next)) => {
-                mark.text == "=" && is_word(next.text) || mark.text == ":" && is_type(next.text)
-            }
-            _ => false,
+    // The token of this index, from the one at fault on; empty if there is none.
+    fn token_at(&self, index: usize) -> &'a str {
+        match tokens_of(self.back).nth(index) {
+            Some(token) => token.text,
+            None => "",
         }
+    }
+
+    /// Whether `:` and a type begin at the token of this index, from the one at fault on.
+    pub(crate) fn has_type(&self, index: usize) -> bool {
+        self.token_at(index) == ":" && is_type(self.token_at(index.saturating_add(1)))
+    }
+
+    /// Whether the token of this index, from the one at fault on, comes after a name that is defined: `=` and a word, which a type may
+    /// come before.
+    pub(crate) fn is_in_heading(&self, index: usize) -> bool {
+        let at = if self.has_type(index) {
+            index.saturating_add(2)
+        } else {
+            index
+        };
+        self.token_at(at) == "=" && is_word(self.token_at(at.saturating_add(1)))
     }
 
     /// Whether the token after it is on the same line.
@@ -123,8 +135,6 @@ impl<'a> Scene<'a> {
     /// How many names and numbers a statement or last line has that is whole.
     pub(crate) fn wanted(&self, statement: Statement<'_>) -> Option<usize> {
         match statement.word {
-            "block" => Some(1),
-            "blockpc" => Some(4),
             "phi" => Some(self.predecessors(statement.first)?.saturating_add(1)),
             word => operand_count(word),
         }

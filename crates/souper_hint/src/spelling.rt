@@ -1,44 +1,45 @@
 //! Hints about attributes, types and numbers.
-ghost use Rattle.std.specs.Prelude.{◌≤◌, IfOk, IfSome};
+ghost use Rattle.std.specs.Prelude.{◌≤◌, IfSome};
 ghost use Rattle.souper_hint.specs.Hints.{SuggestsFrom};
 
 use crate::hints::{Hint, Rule};
-use crate::nearest::nearest_word;
 use crate::scene::Scene;
+use crate::slips::meant_word;
 use crate::tokens::{is_name_byte, is_number, is_type, is_word};
 use crate::words::{ATTRIBUTES, ROOT_ATTRIBUTES, has_word};
-use std::alloc::{AllocError, Global};
+
+// The attribute of the list that the word was meant to be. A letter before an attribute may be a prefix of another meaning.
+fn meant_attribute(word: &str, attributes: &'static str) -> Option<&'static str> {
+    let rest = word.get(1..)?;
+    let is_after_letter = attributes
+        .split(' ')
+        .any(|attribute| attribute.eq_ignore_ascii_case(rest));
+    if is_after_letter {
+        return None;
+    }
+    meant_word(word, &[attributes])
+}
 
 /// A hint at the word of an attribute of a definition.
-pub(crate) fn at_attribute<'a>(
-    alloc: Global,
-    scene: &Scene<'a>,
-) -> Result<Option<Hint<'a>>, AllocError>
-    ensures { IfOk result (λ hint. IfSome hint (SuggestsFrom scene.now.front.now)) }
+pub(crate) fn at_attribute<'a>(scene: &Scene<'a>) -> Option<Hint<'a>>
+    ensures { IfSome result (SuggestsFrom scene.now.front.now) }
 {
-    let Some(word) = scene.token() else {
-        return Ok(None);
-    };
+    let word = scene.token()?;
     if has_word(ROOT_ATTRIBUTES, word) {
-        return Ok(Some(Hint::Rule(Rule::RootAttribute)));
+        return Some(Hint::Rule(Rule::RootAttribute));
     }
-    nearest_word(alloc, word, &[ATTRIBUTES])
+    Some(Hint::Word(meant_attribute(word, ATTRIBUTES)?))
 }
 
 /// A hint at the word of an attribute of a root.
-pub(crate) fn at_root_attribute<'a>(
-    alloc: Global,
-    scene: &Scene<'a>,
-) -> Result<Option<Hint<'a>>, AllocError>
-    ensures { IfOk result (λ hint. IfSome hint (SuggestsFrom scene.now.front.now)) }
+pub(crate) fn at_root_attribute<'a>(scene: &Scene<'a>) -> Option<Hint<'a>>
+    ensures { IfSome result (SuggestsFrom scene.now.front.now) }
 {
-    let Some(word) = scene.token() else {
-        return Ok(None);
-    };
+    let word = scene.token()?;
     if has_word(ATTRIBUTES, word) {
-        return Ok(Some(Hint::Rule(Rule::Attribute)));
+        return Some(Hint::Rule(Rule::Attribute));
     }
-    nearest_word(alloc, word, &[ROOT_ATTRIBUTES])
+    Some(Hint::Word(meant_attribute(word, ROOT_ATTRIBUTES)?))
 }
 
 // The base of a number that begins with 0 and this letter.
@@ -65,7 +66,7 @@ fn are_digits(digits: &str, base: u32) -> bool
     true
 }
 
-// The value of these digits, between which `_` may stand, if it is below 2^128.
+// The value of these digits, between which `_` may stand, if it is below 2^127 as each constant is.
 fn value_of(digits: &str, base: u32) -> Option<u128>
     requires { 2 ≤ base × (base ≤ 16) }
 {
@@ -77,6 +78,9 @@ fn value_of(digits: &str, base: u32) -> Option<u128>
                 .checked_add(u128::from(digit))?;
         }
     }
+    if value > u128::MAX / 2 {
+        return None;
+    }
     Some(value)
 }
 
@@ -85,7 +89,7 @@ pub(crate) fn number_of_base<'a>(scene: &Scene<'a>) -> Option<Hint<'a>>
     ensures { IfSome result (SuggestsFrom scene.now.front.now) }
 {
     let before = scene.front.strip_suffix('0')?;
-    let is_bits = before.ends_with("demandedBits=");
+    let is_bits = before.ends_with("demandedBits=") || before.ends_with("knownBits=");
     if is_bits || before.as_bytes().last().is_some_and(is_name_byte) {
         return None;
     }

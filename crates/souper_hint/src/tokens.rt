@@ -154,7 +154,7 @@ pub(crate) fn is_word(token: &str) -> bool {
 /// Whether the token is a name or a number.
 pub(crate) fn is_operand(token: &str) -> bool {
     match token.as_bytes().first() {
-        Some(byte) => byte.is_ascii_digit() || *byte == b'-' || *byte == b'%',
+        Some(byte) => byte.is_ascii_digit() || matches!(*byte, b'-' | b'%') && token.len() > 1,
         None => false,
     }
 }

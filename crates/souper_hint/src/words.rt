@@ -13,13 +13,17 @@ const TWO_OPERANDS: &str =
 
 const THREE_OPERANDS: &str = "select fshl fshr";
 
-/// The words that a right side begins with, in lists.
-pub(crate) const RIGHT_SIDES: [&str; 5] = [
+// Comparisons of LLVM for which others stand.
+const COMPARISONS: &str = "icmp ugt uge sgt sge";
+
+/// The words that a right side begins with, in lists, and comparisons of LLVM.
+pub(crate) const RIGHT_SIDES: [&str; 6] = [
     "block phi",
     NO_OPERAND,
     ONE_OPERAND,
     TWO_OPERANDS,
     THREE_OPERANDS,
+    COMPARISONS,
 ];
 
 /// The words that begin a statement without a name.
@@ -39,14 +43,15 @@ pub(crate) fn has_word(words: &str, word: &str) -> bool {
 
 /// Whether a right side begins with the word.
 pub(crate) fn is_right_side(word: &str) -> bool {
-    word == "block" || word == "phi" || operand_count(word).is_some() && !is_beginning(word)
+    word == "phi" || operand_count(word).is_some() && !is_beginning(word)
 }
 
 /// How many operands the word takes, if that is the same everywhere.
 pub(crate) fn operand_count(word: &str) -> Option<usize> {
     match word {
-        "infer" | "result" => Some(1),
+        "infer" | "result" | "block" => Some(1),
         "pc" | "cand" => Some(2),
+        "blockpc" => Some(4),
         _ if has_word(TWO_OPERANDS, word) => Some(2),
         _ if has_word(ONE_OPERAND, word) => Some(1),
         _ if has_word(THREE_OPERANDS, word) => Some(3),
