@@ -26,8 +26,8 @@
 #include <stdint.h>
 
 /* The version of this header, and of what is packed with it; the number is as of souper_version. */
-#define SOUPER_VERSION "1.0.0"
-#define SOUPER_VERSION_NUMBER 1000000
+#define SOUPER_VERSION "2.0.0"
+#define SOUPER_VERSION_NUMBER 2000000
 
 #if defined(__GNUC__)
 #define SOUPER_CALL __attribute__((nonnull, warn_unused_result))

@@ -100,7 +100,7 @@ versions() {
 
 own_heap() { # the archive alone, over a heap of the program
     mkdir -p own && cp "$DOC/examples/format.c" "$DOC/examples/heap.c" own || return 1
-    printf '%s\n' 'cmake_minimum_required(VERSION 3.16)' 'project(own C)' 'find_package(souper 1 REQUIRED)' 'add_executable(own format.c heap.c)' \
+    printf '%s\n' 'cmake_minimum_required(VERSION 3.16)' 'project(own C)' 'find_package(souper 2 REQUIRED)' 'add_executable(own format.c heap.c)' \
         'target_link_libraries(own PRIVATE souper::archive)' >own/CMakeLists.txt
     cmake -S own -B own/build && cmake --build own/build && own/build/own lhs a.lhs | cmp - <(printf '%%x = var\ninfer %%x\n\n')
 }

@@ -25,7 +25,7 @@ use std::alloc::Global;
 /// The version of the library: 1,000,000 times the major number, 1,000 times the minor number, and the patch number.
 #[unsafe(no_mangle)]
 pub extern "C" fn souper_version() -> u32
-    ensures { result ≡ 1000000 }
+    ensures { result ≡ 2000000 }
 {
     souper_calls::souper_version()
 }

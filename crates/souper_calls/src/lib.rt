@@ -45,7 +45,7 @@ use souper_width_calls::widths_of_code;
 use std::alloc::Global;
 
 // 1,000,000 times the major number, 1,000 times the minor number, and the patch number.
-const VERSION: u32 = 1_000_000;
+const VERSION: u32 = 2_000_000;
 
 // Writes the bytes to the beginning of the buffer, if it has the room.
 fn write(bytes: &[u8], outcome: SouperOutcome, out: &mut [u8]) -> SouperOutcome
@@ -245,7 +245,7 @@ pub fn souper_check(alloc: Global, kind: u32, text: &[u8]) -> SouperOutcome
 
 /// The version of the library: 1,000,000 times the major number, 1,000 times the minor number, and the patch number.
 pub fn souper_version() -> u32
-    ensures { result ≡ 1000000 }
+    ensures { result ≡ 2000000 }
 {
     VERSION
 }

@@ -143,7 +143,7 @@ fn check<'a>(alloc: Global) -> Result<Command<'a>, AllocError> {
 /// The commands and options of the program.
 pub fn grammar<'a>(alloc: Global) -> Result<Command<'a>, AllocError> {
     Command::new(alloc, "souper_items")
-        .version("1.0.0")
+        .version("2.0.0")
         .about("Records of Souper IR items for a store")
         .after_help(HELP)
         .subcommand_required(true)

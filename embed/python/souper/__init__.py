@@ -181,7 +181,7 @@ __all__ = [
     "write",
 ]
 
-__version__ = "1.0.0"
+__version__ = "2.0.0"
 
 # Messages, pickles and help name the package, not the module of it.
 for _public in map(globals().get, __all__):
