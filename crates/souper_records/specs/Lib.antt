@@ -1,6 +1,7 @@
 pub mod Prelude
 pub mod Records
 pub mod Stops
+pub mod Counts
 pub mod Reports
 pub mod Outcomes
 pub mod Objects

@@ -30,10 +30,14 @@ abbrev pub EndsWithFault : Error → Stream → ℕ → Type 0
 EndsWithFault fault err status = ((error_kind fault ≡ BrokenPipe) × (status ≡ 141) × IsGivenNothing err)
     ⊎ (¬ (error_kind fault ≡ BrokenPipe) × (status ≡ 2) × ReportedFault output_name err)
 
+-- the output was flushed, and the status is the one that was given, or it has failed
+abbrev pub IsOutputEnd : ℕ → Stream → Stream → ℕ → Type 0
+IsOutputEnd given out err status = ((status ≡ given) × IsGivenNothing out × IsGivenNothing err)
+    ⊎ ((out.failed ≡ true) × ((fault : Error) × EndsWithFault fault err status))
+
 -- All parts were written, and perhaps some were refused: the output was flushed, or has failed. Or why not all were written was reported.
 abbrev pub IsPartsEnd : List ℕ → Result Bool Stop → Stream → Stream → ℕ → Type 0
-IsPartsEnd name (Ok refused) out err status = ((status ≡ (if refused then 1 else 0)) × IsGivenNothing out × IsGivenNothing err)
-    ⊎ ((out.failed ≡ true) × ((fault : Error) × EndsWithFault fault err status))
+IsPartsEnd name (Ok refused) out err status = IsOutputEnd (if refused then 1 else 0) out err status
 IsPartsEnd name (Err (Input fault)) out err status = IsGivenNothing out × (status ≡ 2) × ReportedReadFault name err fault
 IsPartsEnd name (Err (Output fault)) out err status = IsGivenNothing out × EndsWithFault fault err status
 IsPartsEnd name (Err Memory) out err status = IsGivenNothing out × (status ≡ 2) × ReportedMemory err

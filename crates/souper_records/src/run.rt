@@ -3,9 +3,9 @@ ghost use Rattle.std.specs.Prelude.{◌≡◌, true, List};
 ghost use Rattle.souper_records.specs.Prelude.{ItemType, Item, stream, has_failed};
 ghost use Rattle.souper_records.specs.Uniques.{HasSeen};
 ghost use Rattle.souper_records.specs.Outcomes.{input_stream};
-ghost use Rattle.souper_records.specs.Runs.{EndsWithFault, IsPartsEnd, IsRecordsRun, IsDistinctRun, IsCountRun};
+ghost use Rattle.souper_records.specs.Runs.{EndsWithFault, IsOutputEnd, IsPartsEnd, IsRecordsRun, IsDistinctRun, IsCountRun};
 
-use crate::counts::write_counts;
+use crate::counts::{Unwritten, write_counts};
 use crate::each::Records;
 use crate::layout::{Layout, Summary};
 use crate::options::ReadOptions;
@@ -42,6 +42,23 @@ pub fn report_output<E: Write>(alloc: Global, fault: &io::Error, err: &mut Watch
     }
 }
 
+// Flushes the output and returns the status, or reports why it was not flushed.
+fn end_output<W: Write, E: Write>(
+    alloc: Global,
+    status: u8,
+    out: &mut Watched<W>,
+    err: &mut Watched<E>,
+) -> u8
+    ensures end { IsOutputEnd status (stream W.contents out.old out.new) (stream E.contents err.old err.new) result }
+    ensures out_stays { has_failed out.old ≡ true → has_failed out.new ≡ true }
+    ensures stays { has_failed err.old ≡ true → has_failed err.new ≡ true }
+{
+    match out.flush() {
+        Ok(()) => status,
+        Err(fault) => report_output(alloc, &fault, err),
+    }
+}
+
 /// Flushes the output after all parts were written to it ([`write_parts`](crate::parts::write_parts)), or reports why not all were.
 /// Returns the status of the program, as [`each_run_with`] does.
 pub fn end_parts<W: Write, E: Write>(
@@ -56,10 +73,7 @@ pub fn end_parts<W: Write, E: Write>(
     ensures stays { has_failed err.old ≡ true → has_failed err.new ≡ true }
 {
     match parts {
-        Ok(refused) => match out.flush() {
-            Ok(()) => u8::from(refused),
-            Err(fault) => report_output(alloc, &fault, err),
-        },
+        Ok(refused) => end_output(alloc, u8::from(refused), out, err),
         Err(Stop::Input(fault)) => {
             report_read_fault(alloc, name, &fault, err);
             2
@@ -147,10 +161,9 @@ pub fn count_run<W: Write, E: Write>(
         → IsCountRun layout summary items (stream W.contents out.old out.new) (stream E.contents err.old err.new) result }
 {
     match write_counts(alloc, layout, summary, seen, out) {
-        Ok(()) => end_parts(alloc, "", Ok(false), out, err),
-        Err(Stop::Input(_)) => unreachable!(),
-        Err(Stop::Output(fault)) => report_output(alloc, &fault, err),
-        Err(Stop::Memory) => {
+        Ok(()) => end_output(alloc, 0, out, err),
+        Err(Unwritten::Output(fault)) => report_output(alloc, &fault, err),
+        Err(Unwritten::Memory) => {
             report_memory(err);
             2
         }

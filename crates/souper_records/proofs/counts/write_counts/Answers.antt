@@ -13,7 +13,7 @@ loop-text-preserved g c = taken_more (c.in-Some.text.now, c.in-Some.count.now) c
 
 pub loop-text-preserved-then-len-ge-CHUNK : goal.loop-text-preserved-then-len-ge-CHUNK
 loop-text-preserved-then-len-ge-CHUNK g c =
-    taken_written (taken_more (c.in-Some.text.now, c.in-Some.count.now) c.in-Some.ensures.steps (rw c.as_str.ensures.value at c.in_ok-append_summary.ensures) c.loop-text.invariant) c.in_ok-write_text.ensures.written c.clear.ensures.bytes
+    taken_written (taken_more (c.in-Some.text.now, c.in-Some.count.now) c.in-Some.ensures.steps (rw c.as_str.ensures.value at c.in_ok-append_summary.ensures) c.loop-text.invariant) c.in_ok-write_records.ensures.written c.clear.ensures.bytes
 
 pub returns-in_err-append_summary-clause-stopped : goal.returns-in_err-append_summary-clause-stopped
 returns-in_err-append_summary-clause-stopped g c =
@@ -23,5 +23,5 @@ returns-in_err-append_summary-clause-stopped g c =
 
 pub returns-clause-written : goal.returns-clause-written
 returns-clause-written g c =
-    let out = stream g.W.Write.contents c.args.out.now c.write_text-2.new.out in
-    on_ok_weaker c.write_text-2.result (λ given k items seen. taken_all c.args.layout c.args.summary items k c.args.seen.now out (g.W.Write.contents (watched_inner c.loop-text.out)) (string_bytes c.loop-text.records) seen (rw c.in-None.ensures.steps.0 at c.loop-text.invariant) given) c.write_text-2.ensures.written
+    let out = stream g.W.Write.contents c.args.out.now c.write_records-2.new.out in
+    on_ok_weaker c.write_records-2.result (λ given k items seen. taken_all c.args.layout c.args.summary items k c.args.seen.now out (g.W.Write.contents (watched_inner c.loop-text.out)) (string_bytes c.loop-text.records) seen (rw c.in-None.ensures.steps.0 at c.loop-text.invariant) given) c.write_records-2.ensures.written
