@@ -191,7 +191,7 @@ pub extern "C" fn souper_flaw(alloc: Global, kind: u32, code: &[u8]) -> SouperFl
 /// - 10: the item has no widths. `location`, `position` and `reason` are the numbers of its first flaw; of two widths that clash `left`
 ///   and `right` are both.
 ///
-/// Unless the status is 0, `out` is as it was.
+/// With status 0 the rest of `out` is as it was, with another status all of it.
 #[unsafe(no_mangle)]
 pub extern "C" fn souper_widths(
     alloc: Global,

@@ -206,8 +206,8 @@ pub fn souper_flaw(alloc: Global, kind: u32, code: &[u8]) -> SouperFlaw
     }
 }
 
-/// Writes the widths of the item whose code `code` begins with to the beginning of `out`: of the result of each statement, and then of its
-/// operands; or returns why it has none, and where.
+/// Writes the widths of the item whose code `code` begins with to the beginning of `out`: of the result of each statement, and then of
+/// the operands of each; or returns why it has none, and where.
 pub fn souper_widths(alloc: Global, kind: u32, code: &[u8], out: &mut [u32]) -> SouperWidths
     ensures no_kind { type_of_number kind ≡ None → (result ≡ widths_without 2) × (out.new ≡ out.old) }
     ensures answered { IsKind kind → OfType kind (λ k. IsWidthsAnswer k code.now out.old result out.new) }

@@ -111,7 +111,8 @@ impl Shown for Keyed {
     }
 }
 
-/// How replacements are written with the keys of their left-hand sides.
+/// How replacements are written with the keys of their left-hand sides: the rows of `rows_run` of `souper_records`, one for each
+/// replacement.
 #[derive(Clone, Copy)]
 pub struct Keying(pub Output);
 

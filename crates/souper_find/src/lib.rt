@@ -1,6 +1,6 @@
 //! What a store of replacements answers for streams of left-hand sides.
 //!
-//! The program `souper_items` calls the functions of [`run`].
+//! [`search::Search`] and [`keyed::Keying`] make the rows of `rows_run` of `souper_records`; [`run`] fills a store.
 #![tactic(auto)]
 
 mod hints;

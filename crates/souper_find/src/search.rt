@@ -16,7 +16,8 @@ pub enum Choice {
     Unanswered,
 }
 
-/// A store, and what is written for each left-hand side that it is asked for.
+/// A store, and what is written for each left-hand side that it is asked for: the rows of `rows_run` of `souper_records`. The answers are
+/// those of `find` of `souper_lookup`, in its order; the status does not say whether there are any.
 #[derive(Clone, Copy)]
 pub struct Search<'s> {
     /// The store.

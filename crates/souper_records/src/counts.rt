@@ -1,5 +1,5 @@
 //! The records of the distinct items, after all were read.
-ghost use Rattle.std.specs.Prelude.{◌≡◌, ◌⊎◌, ◌++◌, List, OnOk, IfErr, string_bytes};
+ghost use Rattle.std.specs.Prelude.{◌≡◌, ◌++◌, List, OnOk, IfErr, string_bytes};
 ghost use Rattle.souper_records.specs.Prelude.{ItemType, Item, stream, IsGiven, has_failed};
 ghost use Rattle.souper_records.specs.Counts.{UnlessFailed};
 ghost use Rattle.souper_records.specs.declared.counts.Unwritten.TheVariants.{Memory};

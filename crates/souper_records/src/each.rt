@@ -16,7 +16,7 @@ use souper_watched::Watched;
 use std::alloc::{AllocError, Global};
 use std::io::Write;
 
-/// The records of the items that were taken, which a part's output is.
+/// The records of the items that were taken. The output of a part is these records.
 #[derive(Drop)]
 pub struct Records {
     alloc: Global,

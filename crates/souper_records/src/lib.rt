@@ -1,6 +1,6 @@
 //! Records of items: what a store of optimizations keeps and compares, made from streams that need not fit in memory.
 //!
-//! The program `souper_items` calls the functions of [`run`] and [`check::check_run`].
+//! The program `souper_items` calls [`run`], [`rows::rows_run`] and [`check::check_run`].
 #![tactic(auto)]
 
 pub mod check;
