@@ -18,14 +18,11 @@ pub(crate) enum Color {
     Never,
 }
 
-/// The command for the items of a stream.
+/// What is done with the items of a stream, of whichever kind.
 #[derive(Clone, Copy)]
-pub(crate) enum Action {
+pub(crate) enum Items {
     /// The record of each is written, or the object of each and of each refusal.
     Format(Output),
-
-    /// Each replacement is written with the key of its left-hand side.
-    Keyed(Output),
 
     /// The same as `Format`, of each with its widths; an item without widths is an error.
     Typed(Form, Output),
@@ -35,12 +32,6 @@ pub(crate) enum Action {
 
     /// The same after all streams, of the graphs and with the counts that are asked for.
     Count(Option<Form>, Layout, Summary),
-
-    /// Each file is rewritten by its canonical text.
-    Write(Rewriting),
-
-    /// What a store answers for each left-hand side is written.
-    Find { choice: Choice, output: Output },
 
     /// Whether the stream is canonical is found out, and if asked for, what would change.
     Check { diff: bool },
@@ -52,31 +43,35 @@ pub(crate) enum Action {
     Widths,
 }
 
+/// The command for a stream.
+#[derive(Clone, Copy)]
+pub(crate) enum Action {
+    Items(Items),
+
+    /// Each replacement is written with the key of its left-hand side.
+    Keyed(Output),
+
+    /// What a store answers for each left-hand side is written.
+    Find { choice: Choice, output: Output },
+}
+
 impl Action {
     /// Whether the output for an item depends on the items before it.
     pub(crate) fn remembers(self) -> bool {
-        matches!(self, Action::Uniq(..) | Action::Count(..))
+        matches!(self, Action::Items(Items::Uniq(..) | Items::Count(..)))
     }
 
     /// Whether JSON objects are written, and parse errors have such.
     pub(crate) fn has_objects(self) -> bool {
         matches!(
             self,
-            Action::Format(Output::Objects { .. })
-                | Action::Typed(_, Output::Objects { .. })
-                | Action::Keyed(Output::Objects { .. })
+            Action::Items(
+                Items::Format(Output::Objects { .. }) | Items::Typed(_, Output::Objects { .. })
+            ) | Action::Keyed(Output::Objects { .. })
                 | Action::Find {
                     output: Output::Objects { .. },
                     ..
                 }
-        )
-    }
-
-    /// Whether nothing is written to standard output while a file is read.
-    pub(crate) fn is_silent(self) -> bool {
-        matches!(
-            self,
-            Action::Count(..) | Action::Write(_) | Action::Check { diff: false } | Action::Widths
         )
     }
 }
@@ -88,6 +83,9 @@ pub(crate) struct Task<'m, 'a> {
     pub(crate) kind: Option<Kind>,
 
     pub(crate) action: Action,
+
+    /// How each file is rewritten by its canonical text, in place of the action, if that is asked for.
+    pub(crate) rewriting: Option<Rewriting>,
 
     /// Whether reading resumes after a refusal, as it does where a refusal has an object.
     pub(crate) recovers: bool,
@@ -111,19 +109,29 @@ pub(crate) struct Task<'m, 'a> {
 }
 
 impl Task<'_, '_> {
+    /// Whether nothing is written to standard output while a file is read.
+    pub(crate) fn is_silent(&self) -> bool {
+        self.rewriting.is_some()
+            || matches!(
+                self.action,
+                Action::Items(Items::Count(..) | Items::Check { diff: false } | Items::Widths)
+            )
+    }
+
     /// What is wrong with the arguments together, if something is.
     pub(crate) fn fault(&self) -> Option<&'static str> {
+        let has_files = !self.files.is_empty() && !has_input(self.files);
+        if self.rewriting.is_some() && !has_files {
+            return Some("the argument '--write' needs files, and standard input is none");
+        }
         match self.action {
-            Action::Write(_) if self.files.is_empty() || has_input(self.files) => {
-                Some("the argument '--write' needs files, and standard input is none")
-            }
             Action::Find { .. } if has_input(self.stores) => {
                 Some("the argument '--in' needs a file, and standard input is none")
             }
             Action::Keyed(_) if self.kind != Some(Kind::Rep) => {
                 Some("the argument '--lhs-key' needs replacements (rep)")
             }
-            _ if self.kind.is_none() && (self.files.is_empty() || has_input(self.files)) => {
+            _ if self.kind.is_none() && !has_files => {
                 Some("the kind 'auto' needs files, and standard input is none")
             }
             _ => None,
@@ -195,32 +203,33 @@ fn read_action(name: &str, options: &ArgMatches<'_>) -> Option<Action> {
         counts: options.get_flag("count"),
         repeated: options.get_flag("repeated"),
     };
-    match name {
-        "format" if options.get_flag("write") => Some(Action::Write(Rewriting {
-            rename: layout.rename,
-            force: options.get_flag("force"),
-            quiet: options.get_flag("quiet"),
-        })),
-        "format" if options.get_flag("lhs-key") => Some(Action::Keyed(output)),
-        "format" => Some(match form {
-            Some(form) => Action::Typed(form, output),
-            None => Action::Format(output),
-        }),
-        "uniq" if summary.counts || summary.repeated => {
-            Some(Action::Count(form, layout, summary))
+    Some(Action::Items(match name {
+        "format" if options.get_flag("lhs-key") => return Some(Action::Keyed(output)),
+        "format" => match form {
+            Some(form) => Items::Typed(form, output),
+            None => Items::Format(output),
+        },
+        "uniq" if summary.counts || summary.repeated => Items::Count(form, layout, summary),
+        "uniq" => Items::Uniq(form, layout),
+        "find" => {
+            let choice = read_choice(options);
+            return Some(Action::Find { choice, output });
         }
-        "uniq" => Some(Action::Uniq(form, layout)),
-        "find" => Some(Action::Find {
-            choice: read_choice(options),
-            output,
-        }),
-        "check" if options.get_flag("list") => Some(Action::List),
-        "check" if form.is_some() => Some(Action::Widths),
-        "check" => Some(Action::Check {
+        "check" if options.get_flag("list") => Items::List,
+        "check" if form.is_some() => Items::Widths,
+        "check" => Items::Check {
             diff: options.get_flag("diff"),
-        }),
-        _ => None,
-    }
+        },
+        _ => return None,
+    }))
+}
+
+fn read_rewriting(options: &ArgMatches<'_>) -> Option<Rewriting> {
+    options.get_flag("write").then_some(Rewriting {
+        rename: options.get_flag("rename"),
+        force: options.get_flag("force"),
+        quiet: options.get_flag("quiet"),
+    })
 }
 
 /// What the matches ask for.
@@ -230,6 +239,7 @@ pub(crate) fn read_task<'m, 'a>(matches: &'m ArgMatches<'a>) -> Option<Task<'m, 
         // The word of a kind, or `auto`. `find` has no such argument.
         kind: kind_of_word(options.get_str("KIND").unwrap_or("lhs")),
         action: read_action(name, options)?,
+        rewriting: read_rewriting(options),
         recovers: options.get_flag("keep-going") || options.get_flag("json"),
         line_buffered: options.get_flag("line-buffered"),
         nul_ends: options.get_flag("null-data"),

@@ -6,7 +6,7 @@ use crate::hint::hint;
 use crate::input::Input;
 use crate::losses::say_would_be_lost;
 use crate::objects::{end_objects, rows, typed_objects};
-use crate::options::{Action, Task};
+use crate::options::{Action, Items, Task};
 use crate::rewrite::rewrite;
 use crate::same_file::{FileId, file_id};
 use crate::{failed, out_of_memory};
@@ -86,27 +86,28 @@ impl<'s, W: Write, E: Write> Session<'s, W, E> {
     // A stream of items of the type.
     fn items<T: StreamItem + TypedItem + Drop, R: BufRead>(
         &mut self,
+        items: Items,
         options: ReadOptions<'_>,
         reader: &mut R,
     ) -> u8 {
         let (alloc, name, hints) = (self.rt.alloc(), options.name, options.hints);
         let (out, err) = (&mut self.out, &mut self.err);
-        match self.task.action {
-            Action::Format(Output::Records(layout)) => {
+        match items {
+            Items::Format(Output::Records(layout)) => {
                 each_run_with::<T, R, W, E>(alloc, layout, options, reader, out, err)
             }
-            Action::Format(objects) => {
+            Items::Format(objects) => {
                 rows::<T, String, Output, R, W, E>(alloc, objects, options, reader, out, err)
             }
-            Action::Typed(form, Output::Records(layout)) => {
+            Items::Typed(form, Output::Records(layout)) => {
                 let layout = TypedLayout { form, layout };
                 typed_run::<T, R, W, E>(alloc, layout, options, reader, out, err)
             }
-            Action::Typed(form, Output::Objects { rename }) => {
+            Items::Typed(form, Output::Objects { rename }) => {
                 let maker = TypedObjects { form, rename };
                 typed_objects::<T, R, W, E>(alloc, maker, options, reader, out, err)
             }
-            Action::Widths => {
+            Items::Widths => {
                 let layout = TypedLayout {
                     form: Form::Widths,
                     layout: PLAIN,
@@ -114,11 +115,11 @@ impl<'s, W: Write, E: Write> Session<'s, W, E> {
                 let mut none = Watched::new(io::sink());
                 typed_run::<T, R, io::Sink, E>(alloc, layout, options, reader, &mut none, err)
             }
-            Action::Uniq(form, layout) => {
+            Items::Uniq(form, layout) => {
                 uniq::<T, R, W, E>((form, layout), options, &mut self.seen, reader, out, err)
             }
             // The records come at the end.
-            Action::Count(form, layout, _) => {
+            Items::Count(form, layout, _) => {
                 let layout = Layout {
                     key: false,
                     ..layout
@@ -133,14 +134,13 @@ impl<'s, W: Write, E: Write> Session<'s, W, E> {
                     err,
                 )
             }
-            Action::Check { diff: false } => {
+            Items::Check { diff: false } => {
                 check_run::<T, R, E>(alloc, reader, name, hints, err)
             }
-            Action::Check { diff: true } => {
+            Items::Check { diff: true } => {
                 check_diff::<T, R, W, E>(alloc, reader, name, hints, out, err)
             }
-            Action::List => check_list::<T, R, W, E>(alloc, reader, name, hints, out, err),
-            Action::Write(_) | Action::Find { .. } | Action::Keyed(_) => 2,
+            Items::List => check_list::<T, R, W, E>(alloc, reader, name, hints, out, err),
         }
     }
 
@@ -170,9 +170,15 @@ impl<'s, W: Write, E: Write> Session<'s, W, E> {
                     alloc, keying, options, reader, out, err,
                 )
             }
-            (_, Kind::Lhs) => self.items::<LeftHandSide, R>(options, reader),
-            (_, Kind::Rhs) => self.items::<RightHandSide, R>(options, reader),
-            (_, Kind::Rep) => self.items::<Replacement, R>(options, reader),
+            (Action::Items(items), Kind::Lhs) => {
+                self.items::<LeftHandSide, R>(items, options, reader)
+            }
+            (Action::Items(items), Kind::Rhs) => {
+                self.items::<RightHandSide, R>(items, options, reader)
+            }
+            (Action::Items(items), Kind::Rep) => {
+                self.items::<Replacement, R>(items, options, reader)
+            }
         }
     }
 
@@ -236,7 +242,7 @@ impl<'s, W: Write, E: Write> Session<'s, W, E> {
     }
 
     fn read(&mut self, kind: Kind, meter: &mut Meter<'s>, path: &str) -> u8 {
-        if let Action::Write(how) = self.task.action {
+        if let Some(how) = self.task.rewriting {
             let (rt, err) = (self.rt, &mut self.err);
             return match kind {
                 Kind::Lhs => rewrite::<LeftHandSide, E>(rt, how, kind, meter, path, err),
@@ -252,7 +258,7 @@ impl<'s, W: Write, E: Write> Session<'s, W, E> {
 
     // What `format --write` would not write of a file that is valid and not canonical.
     fn end_check(&mut self, kind: Kind, status: u8, path: &str) {
-        if matches!(self.task.action, Action::Check { .. })
+        if matches!(self.task.action, Action::Items(Items::Check { .. }))
             && status == 1
             && !self.task.quiet
             && !self.is_refused.get()
@@ -313,19 +319,21 @@ impl<'s, W: Write, E: Write> Session<'s, W, E> {
         let rt = self.rt;
         let shows = !self.task.quiet
             && rt.stderr().is_terminal()
-            && (self.task.action.is_silent() || !rt.stdout().is_terminal());
+            && (self.task.is_silent() || !rt.stdout().is_terminal());
         let mut meter = Meter::new(rt, shows, is_shown);
         let status = self.read_files(&mut meter);
         meter.clear();
         match self.task.action {
-            Action::Count(_, layout, summary) if status != 2 => status.max(count_run(
-                self.rt.alloc(),
-                layout,
-                summary,
-                &self.seen,
-                &mut self.out,
-                &mut self.err,
-            )),
+            Action::Items(Items::Count(_, layout, summary)) if status != 2 => status.max(
+                count_run(
+                    self.rt.alloc(),
+                    layout,
+                    summary,
+                    &self.seen,
+                    &mut self.out,
+                    &mut self.err,
+                ),
+            ),
             _ => status,
         }
     }
@@ -365,7 +373,7 @@ pub(crate) fn run_task<'s, E: Write + Drop>(
         Ok(files) => files,
         Err(status) => return status,
     };
-    let output = if task.action.is_silent() {
+    let output = if task.is_silent() {
         None
     } else {
         file_id(rt, "/dev/stdout")

@@ -56,8 +56,7 @@ fn write_records<W: Write>(records: &String, out: &mut Watched<W>) -> Result<(),
     ensures written { OnOk result (IsGiven (stream W.contents out.old out.new) (string_bytes records.now)) }
     ensures failed { IfErr result (λ fault. UnlessFailed fault (has_failed out.new) ⊥) }
 {
-    out.write_all(records.as_bytes())
-        .map_err(Unwritten::Output)
+    out.write_all(records.as_bytes()).map_err(Unwritten::Output)
 }
 
 // The size of records in bytes from which on they are written.
