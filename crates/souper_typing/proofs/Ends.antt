@@ -18,8 +18,8 @@ use Rattle.souper_records.specs.Reports.{IsMemoryLine, IsFaultLine, IsReadFaultL
 use Rattle.souper_records.specs.Runs.{output_name, EndsWithFault, IsPartsEnd}
 use Rattle.souper_records.specs.Outcomes.{InputStream, Outcome, any_refused, parts_of, HaveItemStarts, WritesPart, WritesParts, EndsRefused, IsBegun}
 use Rattle.souper_records.proofs.Outcomes.{Reached, reached_more, reached_refusal, reached_end, stopped_after, parts_mapped, known_mapped}
-use Rattle.souper_typing.specs.Parts.{Rowed, outcomes_of, typed_outcomes, AreTaken, any_untyped, is_bad, ReportedParts}
-use Rattle.souper_typing.specs.Results.{unsaid, TypesOutcomes, TypesParts, StopsTyping, IsTypingResult}
+use Rattle.souper_typing.specs.Parts.{Rowed, outcomes_of, typed_outcomes, any_untyped, is_bad, ReportedParts}
+use Rattle.souper_typing.specs.Results.{unsaid, TypesOutcomes, TypesParts, TypesBegun, StopsTyping, IsTypingResult}
 use Rattle.souper_typing.specs.Runs.{ReportedPartsThen, IsTypingRun}
 use Rattle.souper_typing.proofs.Bools.{or_none}
 use Rattle.souper_typing.proofs.Stepping.{Stepped, types_more, lost}
@@ -32,14 +32,23 @@ pub typed_end : (i : InputStream) (f : Form) (mid after : Option (List ℕ)) (wr
 typed_end i f mid after written err refused untyped p r quiet all =
     inl (refused, untyped, refl, parts_mapped (λ os w. (w.0, w.1 refl)) (λ es h. h) (reached_end r (λ stops. (or_none refused untyped (quiet stops)).0) all))
 
+-- the stream begins with the parts
+types_begun : (i : InputStream) (f : Form) (written : List Outcome → Type 0) (err : Stream) (untyped : Bool) (os : List Outcome) → IsBegun i os → HaveItemStarts i.kind [] os → (t : TypesOutcomes i f written err untyped os) → TypesBegun i f t.parts
+types_begun i f written err untyped os begun starts t = record {
+  begun = subst (IsBegun i) (sym t.are) begun;
+  taken = t.taken;
+  first = t.first;
+  starts = subst (HaveItemStarts i.kind []) (sym t.are) starts;
+}
+
 -- reading or writing has stopped
 typed_stop : (i : InputStream) (f : Form) (mid : Option (List ℕ)) (written known : List Outcome → Type 0) (err : Stream) (refused untyped failed : Bool) (p : ItemReader) (stop : Stop) → Reached i mid true (TypesOutcomes i f written err untyped) unsaid refused p → (i.recover ≡ false → (refused || untyped) ≡ false)
     → ((os : List Outcome) → written os → UnlessOutput stop failed (known os)) → StopsTyping i f known failed err stop
 typed_stop i f mid written known err refused untyped failed p stop r quiet unless =
-    let K : List Outcome → Type 0 = λ os. (parts : List Rowed) × (outcomes_of parts ≡ os) × AreTaken i.recover f parts × ReportedParts i.name err parts × UnlessOutput stop failed (known (typed_outcomes parts)) in
-    let t = r.written in
-    let (os, begun, none, reported, k) = stopped_after r (λ stops. (or_none refused untyped (quiet stops)).0) K false Memory (t.parts, t.are, t.taken, t.reported, unless (typed_outcomes t.parts) t.are_written) in
-    (os, begun, k)
+    let K : List Outcome → Type 0 = λ os. TypesOutcomes i f written err untyped os × HaveItemStarts i.kind [] os in
+    let (os, begun, none, reported, k) = stopped_after r (λ stops. (or_none refused untyped (quiet stops)).0) K false Memory (r.written, r.started refl) in
+    let t = k.0 in
+    (t.parts, types_begun i f written err untyped os begun k.1 t, t.reported, unless (typed_outcomes t.parts) t.are_written)
 
 -- the same, given what the sink had written, and that nothing was written since unless the output is the cause
 pub typed_stopped : {S W : Type 0} (i : InputStream) (f : Form) (mid : Option (List ℕ)) (err : Stream) (refused untyped failed : Bool) (p : ItemReader) (stop : Stop) (wrote : S → W → List Outcome → Type 0) (s : S) (old new : W)
@@ -52,16 +61,16 @@ typed_stopped {S} {W} i f mid err refused untyped failed p stop wrote s old new 
 module _ {S E : Type 0} (i : InputStream) (f : Form) (mid after : Option (List ℕ)) (wrote : List ℕ → S → Option (List ℕ) → S → Option (List ℕ) → List Outcome → Type 0)
     (joins : (a b c : S) (x y z : Option (List ℕ)) (os qs : List Outcome) → wrote i.name a x b y os → wrote i.name b y c z qs → wrote i.name a x c z (os ++ qs))
     (bytes_of : E → Option (List ℕ)) (a b c : S) (j k l : Option (List ℕ)) (x y z u : Watched E) (parsed : has_failed y ≡ true → has_failed z ≡ true) (said : has_failed z ≡ true → has_failed u ≡ true) where
-  typed_more : (refused untyped rejected more : Bool) (p q : ItemReader) → keeps_starts q ≡ true → (r : Reached i mid true (TypesOutcomes i f (wrote i.name a j b k) (stream bytes_of x y) untyped) unsaid refused p)
+  typed_more : (refused untyped rejected more : Bool) (p q : ItemReader) → keeps_starts q ≡ true → (i.recover ≡ false → untyped ≡ false) → (r : Reached i mid true (TypesOutcomes i f (wrote i.name a j b k) (stream bytes_of x y) untyped) unsaid refused p)
       → WritesPart i after (parts_of r.outcomes) (Stepped i.recover f i.name (wrote i.name b k c l) (stream bytes_of y z) (stream bytes_of z u) more) unsaid rejected q
       → Reached i after true (TypesOutcomes i f (wrote i.name a j c l) (stream bytes_of x u) (untyped || more)) unsaid (refused || rejected) q
-  typed_more refused untyped rejected more p q same r w =
-      reached_more {E = Unit {0}} (λ n. None) lost lost lost (λ e. e) same (λ os o t s. types_more i f wrote joins bytes_of a b c j k l x y z u parsed said untyped more os o t s) r w
+  typed_more refused untyped rejected more p q same calm r w =
+      reached_more {E = Unit {0}} (λ n. None) lost lost lost (λ e. e) same (λ os o t s. types_more i f wrote joins bytes_of a b c j k l x y z u parsed said untyped more calm os o t s) r w
 
-  pub typed_reached : (refused untyped rejected more : Bool) (p q : ItemReader) → keeps_starts q ≡ true → (r : Reached i mid true (TypesOutcomes i f (wrote i.name a j b k) (stream bytes_of x y) untyped) unsaid refused p)
+  pub typed_reached : (refused untyped rejected more : Bool) (p q : ItemReader) → keeps_starts q ≡ true → (i.recover ≡ false → untyped ≡ false) → (r : Reached i mid true (TypesOutcomes i f (wrote i.name a j b k) (stream bytes_of x y) untyped) unsaid refused p)
       → WritesPart i after (parts_of r.outcomes) (Stepped i.recover f i.name (wrote i.name b k c l) (stream bytes_of y z) (stream bytes_of z u) more) unsaid rejected q
       → Reached i after true (TypesOutcomes i f (wrote i.name a j c l) (stream bytes_of x u) (untyped || more)) unsaid (refused || rejected) q
-  typed_reached refused untyped rejected more p q same r w = typed_more refused untyped rejected more p q same r w
+  typed_reached refused untyped rejected more p q same calm r w = typed_more refused untyped rejected more p q same calm r w
 
   -- without recovery it is the last, if it is rejected or an item has no widths
   pub typed_last : (refused untyped rejected more : Bool) (p q : ItemReader) → keeps_starts q ≡ true → (r : Reached i mid true (TypesOutcomes i f (wrote i.name a j b k) (stream bytes_of x y) untyped) unsaid refused p)
@@ -73,11 +82,11 @@ module _ {S E : Type 0} (i : InputStream) (f : Form) (mid after : Option (List �
         untyped || more,
         refl,
         parts_mapped (λ os h. (h.0, h.1 refl)) (λ es h. h)
-            (reached_refusal {E = Unit {0}} (λ n. None) lost lost lost (λ e. e) same (λ os o t s. types_more i f wrote joins bytes_of a b c j k l x y z u parsed said untyped more os o t s) r w refl stops (or_none refused untyped quiet).0),
+            (reached_refusal {E = Unit {0}} (λ n. None) lost lost lost (λ e. e) same (λ os o t s. types_more i f wrote joins bytes_of a b c j k l x y z u parsed said untyped more (λ e. (or_none refused untyped quiet).1) os o t s) r w refl stops (or_none refused untyped quiet).0),
       )
   typed_last refused untyped false more p q same r w stops quiet bad =
       let none = or_none refused untyped quiet in
-      let now = typed_more refused untyped false more p q same r w in
+      let now = typed_more refused untyped false more p q same (λ e. none.1) r w in
       let K : List Outcome → Type 0 = λ os. TypesOutcomes i f (wrote i.name a j c l) (stream bytes_of x u) (untyped || more) os × HaveItemStarts i.kind [] os in
       let calm : (refused || false) ≡ false = (λ n. none.0 n || false) in
       let (os, begun, unrefused, reported, known) = stopped_after now (λ e. calm) K false Memory (now.written, now.started refl) in
@@ -115,6 +124,7 @@ module _ {W E : Type 0} (out_of : W → Option (List ℕ)) (err_of : E → Optio
     are_written = mapped kept (typed_outcomes t.parts) t.are_written;
     reported = quiet_after t.parts quiet t.reported;
     any = t.any;
+    first = t.first;
   }
 
   whole : (bad : Bool) → IsGivenNothing (stream out_of y z) → IsGivenNothing (stream err_of v w) → TypesParts r f after so_far (stream err_of u v) bad → TypesParts r f after written (stream err_of u w) bad
@@ -126,16 +136,16 @@ module _ {W E : Type 0} (out_of : W → Option (List ℕ)) (err_of : E → Optio
   last_alone true written err p stops = inr (p.stopped stops refl)
 
   -- the parts that were read, and what was reported of them
-  reached_parts : (bad : Bool) → TypesParts r f after so_far (stream err_of u v) bad → (parts : List Rowed) × IsBegun r (outcomes_of parts) × AreTaken r.recover f parts × ReportedParts r.name (stream err_of u v) parts
+  reached_parts : (bad : Bool) → TypesParts r f after so_far (stream err_of u v) bad → (parts : List Rowed) × TypesBegun r f parts × ReportedParts r.name (stream err_of u v) parts
   reached_parts bad (inl (refused, untyped, is, p)) =
       let t = p.are_written.0 in
-      (t.parts, subst (IsBegun r) (sym t.are) (after, p.reads, last_alone refused _ _ p), t.taken, t.reported)
-  reached_parts bad (inr (stops, is, (os, begun, none, t, starts))) = (t.parts, subst (IsBegun r) (sym t.are) begun, t.taken, t.reported)
+      (t.parts, types_begun r f so_far (stream err_of u v) untyped p.outcomes (after, p.reads, last_alone refused _ _ p) p.are_written.1 t, t.reported)
+  reached_parts bad (inr (stops, is, (os, begun, none, t, starts))) = (t.parts, types_begun r f so_far (stream err_of u v) true os begun starts t, t.reported)
 
   -- the output has failed
-  output_ends : (fault : Error) (status : ℕ) (parts : List Rowed) → IsBegun r (outcomes_of parts) → AreTaken r.recover f parts → ReportedParts r.name (stream err_of u v) parts → has_failed z ≡ true → EndsWithFault fault (stream err_of v w) status → run status
-  output_ends fault status parts begun taken reported bad (inl (kind, broken, quiet)) = rw broken (refl, (parts, begun, taken, bad, quiet_after parts quiet reported))
-  output_ends fault status parts begun taken reported bad (inr (kind, two, line)) = rw two (parts, begun, taken, inr (bad, (fault, kind), then_line parts (IsFaultLine output_name) reported line))
+  output_ends : (fault : Error) (status : ℕ) (parts : List Rowed) → TypesBegun r f parts → ReportedParts r.name (stream err_of u v) parts → has_failed z ≡ true → EndsWithFault fault (stream err_of v w) status → run status
+  output_ends fault status parts begun reported bad (inl (kind, broken, quiet)) = rw broken (refl, (parts, begun, bad, quiet_after parts quiet reported))
+  output_ends fault status parts begun reported bad (inr (kind, two, line)) = rw two (parts, begun, inr (bad, (fault, kind), then_line parts (IsFaultLine output_name) reported line))
 
   silent : TypesParts r f after written (stream err_of u w) false → IsGivenNothing (stream err_of u w)
   silent (inl (refused, untyped, is, p)) =
@@ -151,9 +161,9 @@ module _ {W E : Type 0} (out_of : W → Option (List ℕ)) (err_of : E → Optio
   pub typing_ends : (parts : Result Bool Stop) (status : ℕ) → IsTypingResult r f after so_far known_so_far (has_failed y) (stream err_of u v) parts → IsPartsEnd r.name parts (stream out_of y z) (stream err_of v w) status → run status
   typing_ends (Ok false) status p (inl (zero_is, kept, quiet)) = let all = whole false kept quiet p in rw zero_is (all, silent all)
   typing_ends (Ok true) status p (inl (one_is, kept, quiet)) = rw one_is (whole true kept quiet p)
-  typing_ends (Ok bad) status p (inr (failed, (fault, ends))) = let (parts, begun, taken, reported) = reached_parts bad p in output_ends fault status parts begun taken reported failed ends
-  typing_ends (Err (Input fault)) status (os, begun, (parts, are, taken, reported, so)) (kept, two, line) =
-      rw two (parts, subst (IsBegun r) (sym are) begun, taken, inl (known_so kept (typed_outcomes parts) so, inl (fault, then_line parts (IsReadFaultLine fault r.name) reported line)))
-  typing_ends (Err (Output g)) status (os, begun, (parts, are, taken, reported, so)) (kept, ends) = output_ends g status parts (subst (IsBegun r) (sym are) begun) taken reported (out_stays so) ends
-  typing_ends (Err Memory) status (os, begun, (parts, are, taken, reported, so)) (kept, two, line) =
-      rw two (parts, subst (IsBegun r) (sym are) begun, taken, inl (known_so kept (typed_outcomes parts) so, inr (then_line parts IsMemoryLine reported line)))
+  typing_ends (Ok bad) status p (inr (failed, (fault, ends))) = let (parts, begun, reported) = reached_parts bad p in output_ends fault status parts begun reported failed ends
+  typing_ends (Err (Input fault)) status (parts, begun, reported, so) (kept, two, line) =
+      rw two (parts, begun, inl (known_so kept (typed_outcomes parts) so, inl (fault, then_line parts (IsReadFaultLine fault r.name) reported line)))
+  typing_ends (Err (Output g)) status (parts, begun, reported, so) (kept, ends) = output_ends g status parts begun reported (out_stays so) ends
+  typing_ends (Err Memory) status (parts, begun, reported, so) (kept, two, line) =
+      rw two (parts, begun, inl (known_so kept (typed_outcomes parts) so, inr (then_line parts IsMemoryLine reported line)))

@@ -1,5 +1,5 @@
 -- Part after part of a stream whose items are written with their widths.
-use Rattle.std.proofs.Common.{◌≡◌, ◌||◌, ℕ, Bool, true, false, List, [], ◌∷◌, ◌++◌, Option, None, Some, option_map, is_some, refl, sym, ap, ◌∙◌, subst, String, string_bytes}
+use Rattle.std.proofs.Common.{◌≡◌, inr, ◌||◌, ℕ, Bool, true, false, List, [], ◌∷◌, ◌++◌, Option, None, Some, option_map, is_some, refl, sym, ap, ◌∙◌, subst, String, string_bytes}
 use Rattle.std.specs.declared.alloc.Global.{Global}
 use Rattle.std.proofs.lemmas.List.{map-append}
 use Rattle.std.proofs.lemmas.List.Folds.{list_any-append}
@@ -69,7 +69,7 @@ step_of wrote name recover f a b x y parse err untyped o r q is said w parsed =
 
 module _ {S E : Type 0} (i : InputStream) (f : Form) (wrote : List ℕ → S → Option (List ℕ) → S → Option (List ℕ) → List Outcome → Type 0)
     (joins : (a b c : S) (x y z : Option (List ℕ)) (os qs : List Outcome) → wrote i.name a x b y os → wrote i.name b y c z qs → wrote i.name a x c z (os ++ qs))
-    (bytes_of : E → Option (List ℕ)) (a b c : S) (j k l : Option (List ℕ)) (x y z u : Watched E) (parsed : has_failed y ≡ true → has_failed z ≡ true) (said : has_failed z ≡ true → has_failed u ≡ true) (untyped more : Bool) where
+    (bytes_of : E → Option (List ℕ)) (a b c : S) (j k l : Option (List ℕ)) (x y z u : Watched E) (parsed : has_failed y ≡ true → has_failed z ≡ true) (said : has_failed z ≡ true → has_failed u ≡ true) (untyped more : Bool) (calm : i.recover ≡ false → untyped ≡ false) where
   pub types_more : (os : List Outcome) (o : Outcome) → TypesOutcomes i f (wrote i.name a j b k) (stream bytes_of x y) untyped os → Stepped i.recover f i.name (wrote i.name b k c l) (stream bytes_of y z) (stream bytes_of z u) more o
       → TypesOutcomes i f (wrote i.name a j c l) (stream bytes_of x u) (untyped || more) (os ++ o ∷ [])
   types_more os o t s = record {
@@ -79,6 +79,7 @@ module _ {S E : Type 0} (i : InputStream) (f : Form) (wrote : List ℕ → S →
     are_written = subst (wrote i.name a j c l) (sym (map-append typed_outcome t.parts (s.part ∷ []))) (joins a b c j k l (typed_outcomes t.parts) (typed_outcome s.part ∷ []) t.are_written s.are_written);
     reported = reported_part bytes_of x y z u parsed said i.name t.parts s.part t.reported (subst (λ (q : Outcome). AreReported i.name (stream bytes_of y z) (refusals_of (q ∷ []))) (sym s.is) s.parsed) s.reported;
     any = (λ n. t.any n || s.any n) ∙ ap (λ (q : Bool). any_untyped t.parts || q) (sym (or_false (has_flaw s.part))) ∙ sym (list_any-append has_flaw t.parts (s.part ∷ []));
+    first = λ stops. inr (record { front = t.parts; last = s.part; whole = refl; none = sym t.any ∙ calm stops });
   }
 
 -- ---- without the reports

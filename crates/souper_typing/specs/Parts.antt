@@ -32,6 +32,13 @@ has_flaw p = any_flawed p.rows
 abbrev pub any_untyped : List Rowed → Bool
 any_untyped parts = list_any has_flaw parts
 
+-- the last part alone has items without widths
+pub record EndsUntyped (parts : List Rowed) : Type 0 where
+  pub front : List Rowed
+  pub last : Rowed
+  pub whole : parts ≡ front ++ last ∷ []
+  pub none : any_untyped front ≡ false
+
 -- the lines of an error, after the name of the stream and the number of the line on which the item begins
 abbrev pub flaw_report : List ℕ → Start → Option (List ℕ) → List ℕ
 flaw_report name start None = []

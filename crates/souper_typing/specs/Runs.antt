@@ -5,11 +5,11 @@ use Rattle.souper_watched.specs.Streams.{Stream, IsGiven, IsGivenNothing}
 use Rattle.souper_typed.specs.declared.form.Form.{Form}
 use Rattle.souper_records.specs.declared.seen.Seen.{Seen}
 use Rattle.souper_records.specs.Uniques.{WritesDistinct, WritesSeenDistinct}
-use Rattle.souper_records.specs.Outcomes.{InputStream, Outcome, IsBegun, OfItems, WritesRecords}
+use Rattle.souper_records.specs.Outcomes.{InputStream, Outcome, OfItems, WritesRecords}
 use Rattle.souper_records.specs.Runs.{OnStatus, HasStopped}
 use Rattle.souper_typing.specs.declared.layout.TypedLayout.{TypedLayout}
-use Rattle.souper_typing.specs.Parts.{Rowed, outcomes_of, typed_outcomes, AreTaken, ArePartLines, ReportedParts}
-use Rattle.souper_typing.specs.Results.{TypesParts}
+use Rattle.souper_typing.specs.Parts.{Rowed, typed_outcomes, ArePartLines, ReportedParts}
+use Rattle.souper_typing.specs.Results.{TypesParts, TypesBegun}
 
 -- unless the writer has failed, the lines of the errors of these parts were written to it, and then a line with the property P
 abbrev pub ReportedPartsThen : List ℕ → Stream → List Rowed → (List ℕ → Type 0) → Type 0
@@ -22,8 +22,8 @@ abbrev pub IsTypingRun : InputStream → Form → Option (List ℕ) → (List Ou
 IsTypingRun r f after written known out err status = OnStatus status
     (TypesParts r f after written err false × IsGivenNothing err)
     (TypesParts r f after written err true)
-    ((parts : List Rowed) × IsBegun r (outcomes_of parts) × AreTaken r.recover f parts × HasStopped r.name (known (typed_outcomes parts)) out (ReportedPartsThen r.name err parts))
-    ((parts : List Rowed) × IsBegun r (outcomes_of parts) × AreTaken r.recover f parts × (out.failed ≡ true) × ReportedParts r.name err parts)
+    ((parts : List Rowed) × TypesBegun r f parts × HasStopped r.name (known (typed_outcomes parts)) out (ReportedPartsThen r.name err parts))
+    ((parts : List Rowed) × TypesBegun r f parts × (out.failed ≡ true) × ReportedParts r.name err parts)
 
 -- writing the record of each item
 abbrev pub IsTypedRun : TypedLayout → InputStream → Option (List ℕ) → Stream → Stream → ℕ → Type 0

@@ -1,5 +1,5 @@
 //! A JSON object for each item of a stream, with its widths, and for each error.
-ghost use Rattle.std.specs.Prelude.{◌≡◌, ◌++◌, true, Option, IfOk, OnOk, option_map, string_bytes};
+ghost use Rattle.std.specs.Prelude.{◌≡◌, true, Option, IfOk, option_map, string_bytes};
 ghost use Rattle.std.specs.List.{AllZip, list_any};
 ghost use Rattle.serde_json.specs.View.{view};
 ghost use Rattle.souper_watched.specs.Streams.{stream};
@@ -32,7 +32,8 @@ use std::io::{BufRead, Write};
 /// The row of an item: its text with its widths written, and the widths of its statements; or what is said of its flaw.
 #[derive(Drop)]
 pub enum TypedRow {
-    /// The item has widths: of each statement that of its result, 0 for none.
+    /// The item has widths. The text has the needed statements, in printed order. `widths` has that of the result of each statement, in the
+    /// order of the source: 0 for a block, a path condition and a statement that is not needed.
     Typed { text: String, widths: Vec<u32> },
 
     /// It has none.
@@ -248,9 +249,9 @@ impl<T: StreamItem + TypedItem + Drop> PartSink<T> for Objects {
 /// Writes a JSON object for each item of the stream and each parse error, in order, as
 /// [`write_rows`](souper_records::rows::write_rows) does, and fails like it. Returns whether there was an error.
 ///
-/// The text of an item has its widths written. Its object has `widths` besides: that of each statement's result, 0 for none. An item
-/// without widths has an object like that of a parse error, at its first token, with the line of the `statement` that has the flaw as
-/// `source`, and its number; null at a last line.
+/// The text of an item has its widths written. Its object has `widths` besides ([`TypedRow::Typed`]). An item without widths has an
+/// object like that of a parse error, at its first token, with the line of the `statement` that has the flaw as `source`, and its number;
+/// null at a last line. Such an item does not end reading, with recovery or without, and is not reported to `err`, as parse errors are.
 pub fn write_typed_objects<T: StreamItem + TypedItem + Drop, R: BufRead, W: Write, E: Write>(
     alloc: Global,
     maker: TypedObjects,

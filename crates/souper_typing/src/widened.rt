@@ -1,5 +1,5 @@
 //! A sink that writes the widths of items before another sink takes them.
-ghost use Rattle.std.specs.Prelude.{◌≡◌, [], false, option_map, string_bytes};
+ghost use Rattle.std.specs.Prelude.{◌≡◌, [], false};
 ghost use Rattle.souper_typing.specs.Widened.{WidenedHolds, WidenedWrote};
 
 use crate::reports::report_of;

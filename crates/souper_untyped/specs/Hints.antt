@@ -1,10 +1,12 @@
 -- Definitions. What is to be written where a width is missing: at the first such place a value, or a constant, with a type.
-use Rattle.std.specs.Prelude.{ℕ, List, [], ◌++◌, codes, decimal, Option, Some, None, slice_get}
+use Rattle.std.specs.Prelude.{ℕ, ℤ, List, [], ◌++◌, codes, decimal, Option, Some, None, slice_get}
+use Rattle.std.specs.Option.{option_or}
+use Rattle.souper_graph.specs.declared.ast.operands.«Type».{«Type» as Ty}
 use Rattle.souper_graph.specs.declared.ast.operands.Constant.{Constant}
 use Rattle.souper_graph.specs.declared.ast.operands.Operand.{Operand}
 use Rattle.souper_graph.specs.declared.ast.operands.Operand.TheVariants.{Value, Constant as constant_variant}
 use Rattle.souper_graph.specs.declared.ast.instructions.Instruction.{Instruction}
-use Rattle.souper_graph.specs.declared.ast.instructions.Instruction.TheVariants.{Eq, Ne, Ult, Slt, Ule, Sle, SaddWithOverflow, UaddWithOverflow, SsubWithOverflow, UsubWithOverflow, SmulWithOverflow, UmulWithOverflow}
+use Rattle.souper_graph.specs.declared.ast.instructions.Instruction.TheVariants.{Zext, Sext, Trunc, Eq, Ne, Ult, Slt, Ule, Sle, SaddWithOverflow, UaddWithOverflow, SsubWithOverflow, UsubWithOverflow, SmulWithOverflow, UmulWithOverflow}
 use Rattle.souper_graph.specs.declared.ast.flaws.FlawLocation.{FlawLocation}
 use Rattle.souper_graph.specs.declared.ast.flaws.FlawLocation.TheVariants.{Statement}
 use Rattle.souper_graph.specs.Leaves.{text_of_constant}
@@ -33,16 +35,29 @@ compared (Ule a b) = Some (a, b)
 compared (Sle a b) = Some (a, b)
 compared i = None
 
-abbrev pub constant_in : Operand → Option Constant
-constant_in (Value i) = None
-constant_in (constant_variant c) = Some c
+-- a constant without a type, with one of this width
+abbrev pub given_type : ℤ → Option Ty → ℕ → Option Constant
+given_type value None width = Some (record { value = value; ty = Some (record { width = width }) })
+given_type value (Some ty) width = None
 
+-- the same of an operand
+abbrev pub with_type : Operand → ℕ → Option Constant
+with_type (Value i) width = None
+with_type (constant_variant c) width = given_type c.value c.ty width
+
+-- the constant without a type that is converted, with one; the result does not say its width
+abbrev pub converted : Instruction → Option Constant
+converted (Zext a) = with_type a 8
+converted (Sext a) = with_type a 8
+converted (Trunc a) = with_type a 64
+converted i = None
+
+-- the first constant without a type, with one
 abbrev pub first_constant : Operand → Operand → Option Constant
-first_constant (Value i) b = constant_in b
-first_constant (constant_variant c) b = Some c
+first_constant a b = option_or (with_type a 32) (with_type b 32)
 
 abbrev pub constant_hint : Constant → Option (List ℕ)
-constant_hint c = Some (codes "write " ++ text_of_constant (record { value = c.value; ty = Some (record { width = 32 }) }))
+constant_hint c = Some (codes "write " ++ text_of_constant c)
 
 abbrev pub value_hint : List ℕ → ℕ → Option (List ℕ)
 value_hint name bits = Some (codes "write " ++ (name ++ (codes ":i" ++ decimal bits)))
@@ -54,12 +69,16 @@ optional_hint (Some c) = constant_hint c
 abbrev pub operands_hint : Operand → Operand → Option (List ℕ)
 operands_hint a b = optional_hint (first_constant a b)
 
-abbrev pub compared_hint : List ℕ → ℕ → Option (Operand × Operand) → Option (List ℕ)
-compared_hint name bits None = value_hint name bits
-compared_hint name bits (Some p) = operands_hint p.0 p.1
+abbrev pub converted_hint : List ℕ → ℕ → Option Constant → Option (List ℕ)
+converted_hint name bits None = value_hint name bits
+converted_hint name bits (Some c) = constant_hint c
+
+abbrev pub compared_hint : Option (Operand × Operand) → Option (List ℕ) → Option (List ℕ)
+compared_hint None hint = hint
+compared_hint (Some p) hint = operands_hint p.0 p.1
 
 abbrev pub instruction_hint : List ℕ → Instruction → Option (List ℕ)
-instruction_hint name i = compared_hint name (value_bits i) (compared i)
+instruction_hint name i = compared_hint (compared i) (converted_hint name (value_bits i) (converted i))
 
 abbrev pub rhs_hint : List ℕ → PlainRhs → Option (List ℕ)
 rhs_hint name (instruction i) = instruction_hint name i

@@ -1,13 +1,13 @@
 //! Where a type says the width that is missing.
 //!
 //! At the first place whose widths nothing says, the values that it uses have widths. So the result has none, or the
-//! operands are constants without a type.
+//! operands are constants without a type. The result of a conversion does not say the width of its operand.
 
 ghost use Rattle.std.specs.Prelude.{◌≡◌, map, IfOk, option_map, slice_get};
 ghost use Rattle.std.specs.String.{string_bytes};
 ghost use Rattle.souper_graph.specs.View.{view_statement, view_assignment};
 ghost use Rattle.souper_graph.specs.PartsView.{view_parts, view_ending};
-ghost use Rattle.souper_untyped.specs.Hints.{value_bits, compared, first_constant, constant_hint, value_hint, operands_hint, instruction_hint, assignment_hint, statement_hint, position_hint, ending_hint, missing_hint, hint_of};
+ghost use Rattle.souper_untyped.specs.Hints.{value_bits, compared, converted, given_type, with_type, first_constant, constant_hint, value_hint, operands_hint, instruction_hint, assignment_hint, statement_hint, position_hint, ending_hint, missing_hint, hint_of};
 
 use souper_graph::ast::{
     Arena, Assignment, AssignmentRhs, Constant, Ending, FlawLocation, Id, Instruction, Operand,
@@ -47,30 +47,57 @@ fn compared(instruction: &Instruction) -> Option<(Operand, Operand)>
     }
 }
 
-fn first_constant(a: Operand, b: Operand) -> Option<Constant>
-    ensures { result ≡ first_constant a b }
+// The constant with a type of this width, if it has none.
+fn given_type(constant: Constant, width: u16) -> Option<Constant>
+    ensures { result ≡ given_type constant.value constant.ty width }
 {
-    match (a, b) {
-        (Operand::Constant(constant), _) => Some(constant),
-        (Operand::Value(_), Operand::Constant(constant)) => Some(constant),
-        (Operand::Value(_), Operand::Value(_)) => None,
+    match constant.ty {
+        None => Some(Constant {
+            value: constant.value,
+            ty: Some(Type { width }),
+        }),
+        Some(_) => None,
     }
 }
 
-// The constant with a type.
+// The same of an operand.
+fn with_type(operand: Operand, width: u16) -> Option<Constant>
+    ensures { result ≡ with_type operand width }
+{
+    match operand {
+        Operand::Value(_) => None,
+        Operand::Constant(constant) => given_type(constant, width),
+    }
+}
+
+// The constant that is converted, with a type, if it has none.
+fn converted(instruction: &Instruction) -> Option<Constant>
+    ensures { result ≡ converted instruction.now }
+{
+    match instruction {
+        Instruction::Zext { a } => with_type(*a, 8),
+        Instruction::Sext { a } => with_type(*a, 8),
+        Instruction::Trunc { a } => with_type(*a, 64),
+        _ => None,
+    }
+}
+
+// The first constant without a type, with one.
+fn first_constant(a: Operand, b: Operand) -> Option<Constant>
+    ensures { result ≡ first_constant a b }
+{
+    with_type(a, 32).or(with_type(b, 32))
+}
+
 fn constant_hint(
     statements: &Arena<Statement>,
     constant: Constant,
 ) -> Result<Option<String>, TextError>
     ensures { IfOk result (λ hint. option_map string_bytes hint ≡ constant_hint constant) }
 {
-    let typed = Operand::Constant(Constant {
-        value: constant.value,
-        ty: Some(Type { width: 32 }),
-    });
     let mut text = String::new(statements.allocator());
     text.push_str("write ")?;
-    typed.append(statements, &mut text)?;
+    Operand::Constant(constant).append(statements, &mut text)?;
     Ok(Some(text))
 }
 
@@ -102,9 +129,10 @@ fn instruction_hint(
 ) -> Result<Option<String>, TextError>
     ensures { IfOk result (λ hint. option_map string_bytes hint ≡ instruction_hint name.now instruction.now) }
 {
-    match compared(instruction) {
-        Some((a, b)) => operands_hint(statements, a, b),
-        None => Ok(value_hint(statements.allocator(), name, value_bits(instruction))?),
+    match (compared(instruction), converted(instruction)) {
+        (Some((a, b)), _) => operands_hint(statements, a, b),
+        (None, Some(constant)) => constant_hint(statements, constant),
+        (None, None) => Ok(value_hint(statements.allocator(), name, value_bits(instruction))?),
     }
 }
 

@@ -1,6 +1,6 @@
 //! Why an item has no widths, in words.
 
-ghost use Rattle.std.specs.Prelude.{◌≡◌, ◌++◌, codes, IfOk};
+ghost use Rattle.std.specs.Prelude.{◌≡◌, IfOk};
 ghost use Rattle.std.specs.String.{string_bytes};
 ghost use Rattle.souper_untyped.specs.Messages.{words_of, reason_text, message_of};
 

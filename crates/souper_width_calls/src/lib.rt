@@ -41,8 +41,10 @@ pub struct SouperWidths {
     /// not a multiple of 16 bits, 12 a constant too wide, 13 number of bits, 14 sign bits, 15 a bad range.
     pub reason: u32,
 
-    /// With reason 7 of status 10 the widths that clash.
+    /// With reason 7 of status 10 one of the widths that clash.
     pub left: u32,
+
+    /// With reason 7 of status 10 the other.
     pub right: u32,
 
     /// With status 0 or 5 the width of the operands of the last lines.
@@ -220,6 +222,14 @@ fn answer<T: Item>(item: &T, out: &mut [u32]) -> SouperWidths
 }
 
 /// The widths of the item whose code the bytes begin with, or its flaw.
+///
+/// - 0: done. The widths of the statements' results and then those of their operands were written to the beginning of `out`.
+/// - 5: `out` has room for fewer.
+/// - 8, 10: the item is not well formed, or has no widths, and the first flaw is told.
+/// - 7: the bytes begin with the code of no item of the type.
+/// - 3: out of memory.
+///
+/// The other elements of `out` stay; with another status than 0 all of them.
 pub fn widths_of_code<T: Decode + Drop>(alloc: Global, code: &[u8], out: &mut [u32]) -> SouperWidths
     ensures { IsWidthsAnswer T.item_type code.now out.old result out.new }
 {

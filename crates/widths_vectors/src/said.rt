@@ -59,6 +59,30 @@ no widths: a width is missing
 statement 2: %y = zext %x
 hint: write %y:i32
 
+=== lhs a conversion of a constant
+%y:i32 = zext 1
+infer %y
+---
+no widths: a width is missing
+statement 1: %y:i32 = zext 1
+hint: write 1:i8
+
+=== lhs a constant that is made narrower
+%y = trunc 300
+infer %y
+---
+no widths: a width is missing
+statement 1: %y = trunc 300
+hint: write 300:i64
+
+=== lhs a conversion of a constant with a type
+%y = sext -1:i8
+infer %y
+---
+no widths: a width is missing
+statement 1: %y = sext -1:i8
+hint: write %y:i32
+
 === lhs a comparison of constants
 %x = slt -1, 2
 infer %x

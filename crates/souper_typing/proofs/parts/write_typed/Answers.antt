@@ -1,11 +1,11 @@
-use Rattle.std.proofs.Common.{◌≡◌, ◌||◌, false, [], refl, sym, ◌∙◌}
+use Rattle.std.proofs.Common.{◌≡◌, inl, ◌||◌, false, [], refl, sym, ◌∙◌}
 use Rattle.std.proofs.KnownBytes.{Keeps-refl}
 use Rattle.std.specs.Prelude.{None}
 use Rattle.souper_watched.specs.Watching.{watched_inner, has_failed}
 use Rattle.souper_records.specs.declared.stop.Stop.TheVariants.{Input}
 use Rattle.souper_records.specs.declared.stop.ReadFault.TheVariants.{Io}
 use Rattle.souper_records.specs.Outcomes.{input_stream}
-use Rattle.souper_typing.proofs.Bools.{or_swap, clash}
+use Rattle.souper_typing.proofs.Bools.{or_none, or_swap, clash}
 use Rattle.souper_typing.proofs.Reporting.{none_reported}
 use Rattle.souper_typing.proofs.Stepping.{begun, step_of, part_unsaid}
 use Rattle.souper_typing.proofs.Ends.{typed_end, typed_stopped, typed_reached, typed_last}
@@ -31,7 +31,7 @@ loop-turn-init g c = record {
       had = c.with_starts-source.ensures.begins g.T.Item.item_type (g.R.Read.remaining c.args.reader.now);
       are = tt;
       started = λ e. tt;
-      written = record { parts = []; are = refl; taken = tt; are_written = c.requires.begins c.args.sink.now.inner (g.W.Write.contents (watched_inner c.args.out.now)); reported = none_reported _ _ (Keeps-refl _); any = refl };
+      written = record { parts = []; are = refl; taken = tt; are_written = c.requires.begins c.args.sink.now.inner (g.W.Write.contents (watched_inner c.args.out.now)); reported = none_reported _ _ (Keeps-refl _); any = refl; first = λ e. inl refl };
       reported = Keeps-refl None;
       any_is = refl;
     },
@@ -71,7 +71,8 @@ loop-turn-preserved g c =
         i.reached.1 || untyped,
         (λ j. i.reached.2 j || (refused || untyped)) ∙ or_swap i.reached.0 i.reached.1 refused untyped,
         typed_reached stream_of c.args.sink.now.form (g.R.Read.remaining c.loop-turn.reader) (g.R.Read.remaining c.write_next.new.reader) g.S.PartSink.wrote c.requires.joins g.E.Write.contents c.args.sink.now.inner c.loop-turn.sink.inner c.write_next.new.sink.inner (g.W.Write.contents (watched_inner c.args.out.now)) y z
-            c.args.err.now c.loop-turn.err c.write_next.new.err c.write_report.new.err e.stays c.write_report.ensures.stays i.reached.0 i.reached.1 refused untyped c.loop-turn.source.parts c.write_next.new.source.parts (e.same ∙ i.same) r w,
+            c.args.err.now c.loop-turn.err c.write_next.new.err c.write_report.new.err e.stays c.write_report.ensures.stays i.reached.0 i.reached.1 refused untyped c.loop-turn.source.parts c.write_next.new.source.parts (e.same ∙ i.same)
+            (λ stops. (or_none i.reached.0 i.reached.1 (sym i.reached.2 ∙ i.quiet stops)).1) r w,
       );
       quiet = λ stops. (λ j. i.quiet stops j || not_bad stops j);
       stays = λ f. c.write_report.ensures.stays (e.stays (i.stays f));
