@@ -1,12 +1,12 @@
 //! Objects of items with their widths, and of items without.
-use crate::support::Run;
+use crate::support::objects;
 use souper_typed::Form;
 
 #[test]
 fn objects_have_widths_or_a_flaw(rt: HostRuntime) {
-    let mut run = Run::new(rt.alloc());
     let source = "%x = var\ninfer %x\n%x:i8 = var\n%y = eq %x, 1\ninfer %y\n";
-    assert!(&rt; run.objects(&rt, Form::Widths, source));
+    let run = objects(&rt, rt.alloc(), Form::Widths, source);
+    assert_eq!(&rt; run.status, 1);
     let rest = run
         .out()
         .strip_prefix(

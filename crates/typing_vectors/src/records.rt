@@ -1,5 +1,5 @@
 //! Records of items with their widths, and what is said of items without.
-use crate::support::Run;
+use crate::support::{Run, distinct, records};
 use souper_typed::Form;
 use std::process::Abort;
 
@@ -46,23 +46,23 @@ fn is_said(rt: &impl Abort, run: &Run, out: &[&str], err: &[&str]) {
 
 #[test]
 fn reading_ends_with_the_first_item_without_widths(rt: HostRuntime) {
-    let mut run = Run::new(rt.alloc());
-    assert_eq!(&rt; run.records(Form::Widths, false, MIXED), 1);
+    let run = records(rt.alloc(), Form::Widths, false, MIXED);
+    assert_eq!(&rt; run.status, 1);
     is_said(&rt, &run, &[FIRST], &[CONFLICT]);
 }
 
 #[test]
 fn items_without_widths_are_passed_over(rt: HostRuntime) {
-    let mut run = Run::new(rt.alloc());
-    assert_eq!(&rt; run.records(Form::Widths, true, MIXED), 1);
+    let run = records(rt.alloc(), Form::Widths, true, MIXED);
+    assert_eq!(&rt; run.status, 1);
     is_said(&rt, &run, &[FIRST, LAST], &[CONFLICT, MISSING]);
 }
 
 #[test]
 fn items_with_widths_say_nothing(rt: HostRuntime) {
-    let mut run = Run::new(rt.alloc());
     let source = "%x:i8 = var %y = add %x, 255 infer %y";
-    assert_eq!(&rt; run.records(Form::Complete, false, source), 0);
+    let run = records(rt.alloc(), Form::Complete, false, source);
+    assert_eq!(&rt; run.status, 0);
     let want = "%x:i8 = var\n%y:i8 = add %x, -1:i8\ninfer %y\n\n";
     is_said(&rt, &run, &[want], &[]);
 }
@@ -70,9 +70,9 @@ fn items_with_widths_say_nothing(rt: HostRuntime) {
 // The error of a rejected part comes before those of its items.
 #[test]
 fn parse_errors_are_reported_too(rt: HostRuntime) {
-    let mut run = Run::new(rt.alloc());
     let source = "%x = var infer %x infer %y\n%x:i1 = var\ninfer %x\n";
-    assert_eq!(&rt; run.records(Form::Widths, true, source), 1);
+    let run = records(rt.alloc(), Form::Widths, true, source);
+    assert_eq!(&rt; run.status, 1);
     let error =
         "a.lhs:1:25: no value named '%y' in scope\n     |\n   1 | %x = var infer %x infer %y\n     |                         ^\n";
     let missing =
@@ -82,10 +82,10 @@ fn parse_errors_are_reported_too(rt: HostRuntime) {
 
 #[test]
 fn distinct_items_are_those_of_one_form(rt: HostRuntime) {
-    let mut run = Run::new(rt.alloc());
     let source =
         "%x:i8 = var %y = add %x, 255 infer %y\n%x:i8 = var %y:i8 = add %x, -1:i8 infer %y\n%x = var infer %x\n";
-    assert_eq!(&rt; run.distinct(Form::Complete, true, source), 1);
+    let run = distinct(rt.alloc(), Form::Complete, source);
+    assert_eq!(&rt; run.status, 1);
     let want = "%x:i8 = var\n%y:i8 = add %x, -1:i8\ninfer %y\n\n";
     let missing =
         "a.lhs:3: no widths: a width is missing\nstatement 1: %x = var\nhint: write %x:i32\n";

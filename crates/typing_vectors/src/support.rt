@@ -1,6 +1,6 @@
 //! What a run writes, and its status.
 use souper_ir::ast::LeftHandSide;
-use souper_records::layout::{Layout, PLAIN};
+use souper_records::layout::PLAIN;
 use souper_records::options::ReadOptions;
 use souper_records::seen::Seen;
 use souper_typed::Form;
@@ -9,6 +9,7 @@ use souper_typing::objects::{TypedObjects, write_typed_objects};
 use souper_typing::run::{typed_run, typed_uniq_run};
 use souper_watched::Watched;
 use std::alloc::Global;
+use std::io::Write;
 use std::process::Abort;
 
 pub fn options(recover: bool) -> ReadOptions<'static> {
@@ -27,85 +28,100 @@ pub fn layout(form: Form) -> TypedLayout {
     }
 }
 
-/// The status and both outputs, as one text.
+/// What a run did.
 #[derive(Drop)]
 pub struct Run {
-    alloc: Global,
+    pub status: u8,
     out: Vec<u8>,
     err: Vec<u8>,
 }
 
 impl Run {
-    pub fn new(alloc: Global) -> Run {
-        Run {
-            alloc,
-            out: Vec::new(alloc),
-            err: Vec::new(alloc),
-        }
-    }
-
-    /// The status of the records of a stream.
-    pub fn records(&mut self, form: Form, recover: bool, source: &str) -> u8 {
-        let mut reader = source.as_bytes();
-        let (mut out, mut err) = (Watched::new(&mut self.out), Watched::new(&mut self.err));
-        typed_run::<LeftHandSide, &[u8], &mut Vec<u8>, &mut Vec<u8>>(
-            self.alloc,
-            layout(form),
-            options(recover),
-            &mut reader,
-            &mut out,
-            &mut err,
-        )
-    }
-
-    /// The status of the records of the distinct items of two streams with this text.
-    pub fn distinct(&mut self, form: Form, recover: bool, source: &str) -> u8 {
-        let mut seen = Seen::new(self.alloc);
-        let first = self.more(form, recover, source, &mut seen);
-        first.max(self.more(form, recover, source, &mut seen))
-    }
-
-    fn more(&mut self, form: Form, recover: bool, source: &str, seen: &mut Seen) -> u8 {
-        let mut reader = source.as_bytes();
-        let (mut out, mut err) = (Watched::new(&mut self.out), Watched::new(&mut self.err));
-        let layout = TypedLayout {
-            form,
-            layout: Layout { ..PLAIN },
-        };
-        typed_uniq_run::<LeftHandSide, &[u8], &mut Vec<u8>, &mut Vec<u8>>(
-            layout,
-            options(recover),
-            seen,
-            &mut reader,
-            &mut out,
-            &mut err,
-        )
-    }
-
-    /// Whether an item of the stream has no widths, or a part is rejected.
-    pub fn objects(&mut self, rt: &impl Abort, form: Form, source: &str) -> bool {
-        let mut reader = source.as_bytes();
-        let (mut out, mut err) = (Watched::new(&mut self.out), Watched::new(&mut self.err));
-        write_typed_objects::<LeftHandSide, &[u8], &mut Vec<u8>, &mut Vec<u8>>(
-            self.alloc,
-            TypedObjects {
-                form,
-                rename: false,
-            },
-            options(true),
-            &mut reader,
-            &mut out,
-            &mut err,
-        )
-        .ok()
-        .expect(rt, source)
-    }
-
     pub fn out(&self) -> &str {
         std::str::from_utf8(&self.out).unwrap_or("not UTF-8")
     }
 
     pub fn err(&self) -> &str {
         std::str::from_utf8(&self.err).unwrap_or("not UTF-8")
+    }
+}
+
+/// Writes the records of a stream.
+pub fn records(alloc: Global, form: Form, recover: bool, source: &str) -> Run {
+    let (mut written, mut reported) = (Vec::new(alloc), Vec::new(alloc));
+    let mut out = Watched::new(&mut written);
+    let mut err = Watched::new(&mut reported);
+    let (layout, options) = (layout(form), options(recover));
+    let mut reader = source.as_bytes();
+    let status = typed_run::<LeftHandSide, &[u8], &mut Vec<u8>, &mut Vec<u8>>(
+        alloc,
+        layout,
+        options,
+        &mut reader,
+        &mut out,
+        &mut err,
+    );
+    Run {
+        status,
+        out: written,
+        err: reported,
+    }
+}
+
+fn read_distinct<W: Write, E: Write>(
+    form: Form,
+    source: &str,
+    seen: &mut Seen,
+    out: &mut Watched<W>,
+    err: &mut Watched<E>,
+) -> u8 {
+    let (layout, options) = (layout(form), options(true));
+    let mut reader = source.as_bytes();
+    typed_uniq_run::<LeftHandSide, &[u8], W, E>(layout, options, seen, &mut reader, out, err)
+}
+
+/// Writes the records of the distinct items of two streams with this text, with recovery.
+pub fn distinct(alloc: Global, form: Form, source: &str) -> Run {
+    let (mut written, mut reported) = (Vec::new(alloc), Vec::new(alloc));
+    let mut out = Watched::new(&mut written);
+    let mut err = Watched::new(&mut reported);
+    let mut seen = Seen::new(alloc);
+    let first = read_distinct::<&mut Vec<u8>, &mut Vec<u8>>(
+        form, source, &mut seen, &mut out, &mut err,
+    );
+    let second = read_distinct::<&mut Vec<u8>, &mut Vec<u8>>(
+        form, source, &mut seen, &mut out, &mut err,
+    );
+    Run {
+        status: first.max(second),
+        out: written,
+        err: reported,
+    }
+}
+
+/// Writes the objects of a stream. The status is 1 if an item of it has no widths, or a part is rejected.
+pub fn objects(rt: &impl Abort, alloc: Global, form: Form, source: &str) -> Run {
+    let (mut written, mut reported) = (Vec::new(alloc), Vec::new(alloc));
+    let mut out = Watched::new(&mut written);
+    let mut err = Watched::new(&mut reported);
+    let maker = TypedObjects {
+        form,
+        rename: false,
+    };
+    let options = options(true);
+    let mut reader = source.as_bytes();
+    let refused = write_typed_objects::<LeftHandSide, &[u8], &mut Vec<u8>, &mut Vec<u8>>(
+        alloc,
+        maker,
+        options,
+        &mut reader,
+        &mut out,
+        &mut err,
+    ).ok()
+        .expect(rt, source);
+    Run {
+        status: u8::from(refused),
+        out: written,
+        err: reported,
     }
 }
