@@ -31,8 +31,8 @@ has-right [] ys u h = h
 has-right (x ∷ xs) ys u h = inr (has-right xs ys u h)
 
 -- both give the same at the positions of the uses
-record Agree (f g : ℕ → Outcome) (us : List Use) : Type 0 where
-  same : (u : Use) → Has us u → f (position_of u) ≡ g (position_of u)
+pub record Agree (f g : ℕ → Outcome) (us : List Use) : Type 0 where
+  pub same : (u : Use) → Has us u → f (position_of u) ≡ g (position_of u)
 
 front : {f g : ℕ → Outcome} (xs ys : List Use) → Agree f g (xs ++ ys) → Agree f g xs
 front xs ys h = record { same = λ u i. h.same u (has-left xs ys u i) }
@@ -78,7 +78,7 @@ module _ (f g : ℕ → Outcome) where
   by_widths_same w v x p (condition c) h = refl
   by_widths_same w v x p (block_condition c) h = refl
 
-  statement_same : (m : WidthMap) (x : World) (p : ℕ) (s : PlainStatement) → Agree f g (uses_of s) → statement_outcome m x p f s ≡ statement_outcome m x p g s
+  pub statement_same : (m : WidthMap) (x : World) (p : ℕ) (s : PlainStatement) → Agree f g (uses_of s) → statement_outcome m x p f s ≡ statement_outcome m x p g s
   statement_same m x p s h = by_widths_same (result_width m p) (operand_width m p) x p s h
 
 -- later statements keep the outcomes of earlier ones

@@ -89,7 +89,7 @@ equal_agrees f g n x y h k =
     subst (λ (o : Outcome). AreOneNumber o (operand_outcome g n y)) (operand_agrees f g n x (λ i q. h i (Has-left (uses_of_operand x) (uses_of_operand y) (value_use i) q)))
     (subst (λ (o : Outcome). AreOneNumber (operand_outcome f n x) o) (operand_agrees f g n y (λ i q. h i (Has-right (uses_of_operand x) (uses_of_operand y) (value_use i) q))) k)
 
-statement_agrees : (f g : ℕ → Outcome) (w v : ℕ) (x : World) (p : ℕ) (s : PlainStatement) → ((i : ℕ) → Has (uses_of s) (value_use i) → f i ≡ g i) → MeetsStatement w v x f p (Some s) → MeetsStatement w v x g p (Some s)
+pub statement_agrees : (f g : ℕ → Outcome) (w v : ℕ) (x : World) (p : ℕ) (s : PlainStatement) → ((i : ℕ) → Has (uses_of s) (value_use i) → f i ≡ g i) → MeetsStatement w v x f p (Some s) → MeetsStatement w v x g p (Some s)
 statement_agrees f g w v x p (assigned a) h k = k
 statement_agrees f g w v x p (condition c) h k = equal_agrees f g v c.x c.y h k
 statement_agrees f g w v x p (block_condition c) h (inl k) = inl k

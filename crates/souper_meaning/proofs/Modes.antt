@@ -26,7 +26,7 @@ statement_may_be w x p (Some (assigned a)) h = rhs_may_be w x p a.value h
 statement_may_be w x p (Some (condition c)) h = h
 statement_may_be w x p (Some (block_condition c)) h = h
 
-world_may_be : (a : Item) (m : WidthMap) (x : World) → IsWorld value_inputs a m x → IsWorld poison_inputs a m x
+pub world_may_be : (a : Item) (m : WidthMap) (x : World) → IsWorld value_inputs a m x → IsWorld poison_inputs a m x
 world_may_be a m x w = λ p n. statement_may_be (result_width m p) x p (slice_get a.statements p) (w p n)
 
 pub sound_for_values : (a : Item) (m : WidthMap) → Sound poison_inputs a m → Sound value_inputs a m

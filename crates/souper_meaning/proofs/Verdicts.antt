@@ -1,5 +1,6 @@
 -- Worked examples of sound, unsound and vacuous items.
-use Rattle.std.proofs.Common.{◌≡◌, ℕ, zero, suc, ◌+◌, ◌%◌, ◌<◌, ◌≤◌, [], ◌∷◌, slice_get, refl, arith, inl, inr, lit<, pos}
+use Rattle.std.proofs.Common.{◌≡◌, ℕ, zero, suc, ◌+◌, ◌%◌, ◌<◌, ◌≤◌, [], ◌∷◌, slice_get, refl, arith, inl, inr, lit<, pos, true}
+use Rattle.std.specs.Prelude.{replicate}
 use Rattle.souper_graph.specs.Values.{negative, range}
 use Rattle.souper_graph.specs.Uses.{NeededIn, walked, used}
 use Rattle.souper_widths.specs.Maps.{WidthMap}
@@ -8,6 +9,9 @@ use Rattle.souper_words.specs.declared.outcome.Outcome.TheVariants.{Number, Pois
 use Rattle.souper_meaning.specs.Worlds.{World, value_at, Mode, value_inputs, poison_inputs, IsInput, GivesAt}
 use Rattle.souper_meaning.specs.Statements.{out}
 use Rattle.souper_meaning.specs.Sound.{MeetsAt, MeetsFacts, RefinesEnding, IsHole, Sound, Vacuous}
+use Rattle.souper_meaning.specs.Digits.{digit_of}
+use Rattle.souper_meaning.specs.Numbering.{count_at, HasDigitAt}
+use Rattle.souper_meaning.specs.Exhausted.{RefinesIn, AllRefineBelow, IsFirstRefuting}
 use Rattle.souper_meaning.specs.Examples.{shifted, shifted_widths, doubled, either, either_widths, thawed, thawed_widths, overflowing, overflowing_widths, divided, divided_widths, contradicted, contradicted_widths, holed, world_of, world_of_two}
 
 shifted_gives : (p : ℕ) → GivesAt value_inputs shifted shifted_widths (world_of (Number 1)) p
@@ -24,6 +28,35 @@ shifted_meets (suc (suc (suc p))) = tt
 
 pub shifted-unsound : ¬ Sound value_inputs shifted shifted_widths
 shifted-unsound s = s.1 (world_of (Number 1)) (λ p n. shifted_gives p) (λ p n. shifted_meets p)
+
+-- the first counterexample: 0 is none, and 1 is one
+
+shifted_input : NeededIn shifted 0
+shifted_input = used (walked (inl refl)) (inl refl)
+
+shifted_zero : (x : World) → value_at x 0 ≡ Number 0 → RefinesIn shifted shifted_widths x
+shifted_zero x e = rw e refl
+
+shifted_one : (p : ℕ) → HasDigitAt shifted shifted_widths (world_of (Number 1)) p (digit_of (count_at value_inputs shifted shifted_widths (replicate 3 true)) 1 p)
+shifted_one zero = refl
+shifted_one (suc zero) = tt
+shifted_one (suc (suc zero)) = tt
+shifted_one (suc (suc (suc p))) = tt
+
+shifted_before : AllRefineBelow value_inputs shifted shifted_widths (replicate 3 true) 1
+shifted_before zero x l n h = shifted_zero x (n 0 shifted_input)
+shifted_before (suc k) x l n h = absurd (omega (arith, l))
+
+pub shifted-first : IsFirstRefuting value_inputs shifted shifted_widths (replicate 3 true) (world_of (Number 1))
+shifted-first = record {
+  world = λ p n. shifted_gives p;
+  meets = λ p n. shifted_meets p;
+  fails = λ h. h;
+  number = 1;
+  inside = lit< tt;
+  numbered = λ p n. shifted_one p;
+  before = shifted_before;
+}
 
 either_gives : (p : ℕ) → GivesAt poison_inputs either either_widths (world_of_two (Number 1) Poison) p
 either_gives zero = lit< tt

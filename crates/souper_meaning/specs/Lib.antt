@@ -1,10 +1,15 @@
+pub mod Digits
 pub mod Evaluable
 pub mod Evaluations
 pub mod Examples
+pub mod Exhausted
 pub mod Facts
 pub mod Instructions
+pub mod Numbering
 pub mod Plans
 pub mod Sound
 pub mod Statements
+pub mod Stepping
+pub mod Trying
 pub mod View
 pub mod Worlds

@@ -46,7 +46,7 @@ fn has_known_bits(bits: &[Option<bool>], n: u128) -> bool
 }
 
 /// The number whose lowest bits, as many as the width, are 1.
-fn mask_of(width: u32) -> u128
+pub(crate) fn mask_of(width: u32) -> u128
     requires low { 1 ≤ width }
     requires high { width ≤ 128 }
     ensures { result ≡ 2 ^ width - 1 }

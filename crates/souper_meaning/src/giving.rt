@@ -16,7 +16,7 @@ use souper_graph::ast::{AssignmentRhs, Id, Instruction, Parts, Statement};
 use souper_words::Outcome;
 
 /// Whether a number has this width at most.
-fn fits(n: u128, width: u32) -> bool
+pub(crate) fn fits(n: u128, width: u32) -> bool
     requires { width ≤ 128 }
     ensures { IsTrue result ↔ (n < 2 ^ width) }
 {

@@ -102,7 +102,12 @@ fn root_outcome_of(done: &[Outcome], width: u32, root: Option<Operand>) -> Optio
 }
 
 /// What the item gives, by the outcomes of its statements.
-fn evaluation_by(parts: &Parts<'_>, plan: &Plan, world: &World, outcomes: &[Outcome]) -> Evaluation
+pub(crate) fn evaluation_by(
+    parts: &Parts<'_>,
+    plan: &Plan,
+    world: &World,
+    outcomes: &[Outcome],
+) -> Evaluation
     requires planned { IsPlan (view_parts parts.now) plan.now }
     requires world { IsWorld poison_inputs (view_parts parts.now) (view_widths plan.now.widths) (view_world world.now) }
     requires outcomes { AreOutcomes (view_parts parts.now) (view_widths plan.now.widths) (view_world world.now) outcomes.now }

@@ -3,21 +3,28 @@
 
 mod conditions;
 mod evaluation;
+mod exhausting;
 mod facts;
 mod giving;
 mod instructions;
 mod item_outcomes;
 pub mod laws;
+mod numbering;
+mod odometer;
 mod operands;
 mod planning;
 mod plans;
 mod refining;
 mod refusals;
 mod statements;
+mod stepping;
+mod trials;
+mod wanted;
 mod worlds;
 
 pub use conditions::meets;
 pub use evaluation::eval_into;
+pub use exhausting::{Verdict, exhaust};
 pub use giving::is_world;
 pub use instructions::word_of;
 pub use item_outcomes::{EvalError, Evaluation, eval};
