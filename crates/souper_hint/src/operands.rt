@@ -133,7 +133,10 @@ fn joined(front: &str, back: &str) -> Option<&'static str> {
 // Whether the word is a flag of LLVM that the instruction before it lacks here. A name without its `%` ends a line or has a comma after it.
 fn is_lost_flag(scene: &Scene<'_>, front: &str, word: &str) -> bool {
     let is_known = has_word(FLAGS, word) || front == "trunc" && is_flag(word);
-    is_known && scene.has_next_on_line() && scene.next_token().is_some_and(|next| next != ",")
+    is_known
+        && has_commas(scene)
+        && scene.has_next_on_line()
+        && scene.next_token().is_some_and(|next| next != ",")
 }
 
 // Whether the word is a number or a value of other languages, and no name without its `%`.
