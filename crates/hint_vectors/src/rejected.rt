@@ -274,7 +274,7 @@ this attribute comes after a definition
 %x = var (demandedBits=01)
 infer %x
 ---
-this attribute comes after 'infer' or 'cand' with its operands
+this attribute comes after 'infer' with its name
 === lhs misspelt name after infer
 %count = var
 infer %cuont
@@ -635,7 +635,7 @@ a type comes after the name that is defined or a constant: '%y:i32 = add %x, 1:i
 %y = zext i8 %x to i32
 infer %y
 ---
-a type comes after the name that is defined or a constant: '%y:i32 = add %x, 1:i32'
+a type comes after the name that is defined or a constant: '%x:i32 = var', '1:i32'
 === lhs type after var
 %x = var i8
 infer %x
@@ -1369,7 +1369,7 @@ infer %x
 %y = var
 cand %y 1
 ---
-the 'result' line is missing before line 3
+the 'result' line is missing above
 === rep second infer line
 %x = var
 infer %x
@@ -1439,7 +1439,7 @@ this is a byte order mark (U+FEFF); remove it
 %x = var (range=[0,8])
 infer %x
 ---
-a range ends with ')', as in '(range=[0,8))'
+a range ends with ')' and does not include its end: '(range=[0,8))' is 0 to 7
 === lhs bracket outside a range
 %x = var
 %y = add %x, 1]
@@ -1467,4 +1467,161 @@ infer %x
 infer %x
 ---
 
+=== lhs name of a later definition near another one
+%vals = var
+%y = add %val, 1
+%z = mul %y, 2
+%val = var
+infer %z
+---
+'%val' is defined later, on line 4
+=== lhs name that the next item defines
+%vals = var
+infer %val
+
+%val = var
+infer %val
+---
+did you mean '%vals'?
+=== lhs name with another last letter after the one like it
+%argA = var
+%y = add %argA, %argB
+infer %y
+---
+
+=== lhs name with another last letter before the one like it
+%argA = var
+%y = add %argB, %argA
+infer %y
+---
+
+=== lhs type before the operands of a comparison
+%x = var
+%y = ult i32 %x, 4
+infer %y
+---
+a type comes after the name that is defined or a constant: '%x:i32 = var', '1:i32'
+=== lhs type after an operand of a comparison
+%x = var
+%y = ult %x, %x:i32
+infer %y
+---
+a type comes after the name that is defined or a constant: '%x:i32 = var', '1:i32'
+=== lhs operator between operands
+%x = var
+%y = %x + 4
+infer %y
+---
+an instruction begins with its word: 'add %x, 1'
+=== lhs instruction between operands
+%x = var
+%y = %x mul 4
+infer %y
+---
+an instruction begins with its word: 'add %x, 1'
+=== lhs type of a real number
+%x:f32 = var
+infer %x
+---
+
+=== lhs word between three others
+%x = var
+%y = addn %x, 1
+infer %y
+---
+
+=== rep attribute of a root after a definition
+%x = var (harvestedFromUse)
+cand %x 1
+---
+this attribute comes after 'infer' or 'cand' with its operands
+=== rhs attribute of a root after a definition
+%x = var (demandedBits=01)
+result %x
+---
+a right-hand side has no 'demandedBits' and no 'harvestedFromUse'
+=== rhs attribute of a root after result
+%x = var
+result %x (harvestedFromUse)
+---
+a right-hand side has no 'demandedBits' and no 'harvestedFromUse'
+=== rep result line is missing after a definition, without an empty line
+%x = var
+infer %x
+%y = add %x, 0
+%z = var
+infer %z
+result %z
+---
+the 'result' line is missing above
+=== lhs flag of a conversion
+%x = var
+%y = zext nneg %x
+infer %y
+---
+there is no such flag; leave it out
+=== lhs flag of or
+%x = var
+%y = or disjoint %x, 1
+infer %y
+---
+there is no such flag; leave it out
+=== lhs flag before a type
+%x = var
+%y = select fast i1 %x, 1, 2
+infer %y
+---
+there is no such flag; leave it out
+=== lhs flag as a name
+%x = var
+%y = add fast, %x
+infer %y
+---
+a name begins with '%'
+=== lhs comma before an attribute
+%x = var
+%y = add %x, 1, (nonZero)
+infer %y
+---
+no ',' comes after the last operand
+=== lhs true in place of a number
+%b = block true
+infer %b
+---
+'block' takes the number of its predecessors, as in 'block 2'
+=== lhs word in place of the number of an attribute
+%x = var (signBits=x)
+infer %x
+---
+
+=== lhs hex number with a letter after it
+%x = var
+%y = add %x, FFh
+infer %y
+---
+
+=== lhs null in capitals
+%x = var
+%y = eq %x, NULL
+infer %y
+---
+
+=== lhs path condition of a block without the index
+%b = block 2
+%x = var
+blockpc %b %x 1
+infer %x
+---
+the index of a predecessor comes after the block, as in 'blockpc %b 0 %x 1'
+=== lhs phi without a block
+%p = phi
+infer %p
+---
+'phi' takes a block and a value for each of its predecessors
+=== lhs both flags in one word
+%x = var
+%y = addnuwnsw %x, 1
+infer %y
+---
+did you mean 'addnw'?
 ";

@@ -4,11 +4,12 @@ ghost use Rattle.souper_hint.specs.Hints.{SuggestsFrom};
 
 use crate::hints::{Hint, LastLine, Rule};
 use crate::kinds::Kind;
-use crate::operands::{comma_after, too_many};
+use crate::operands::{comma_after, too_many, type_rule};
 use crate::scene::Scene;
 use crate::slips::meant_word;
+use crate::spelling::root_rule;
 use crate::tokens::{is_number, is_operand, is_type, is_word};
-use crate::words::{CONDITIONS, is_beginning};
+use crate::words::{CONDITIONS, ROOT_ATTRIBUTES, has_word, is_beginning};
 
 // The words that begin this last line.
 fn words_of(last_line: LastLine) -> &'static str {
@@ -27,9 +28,12 @@ fn missing_line<'a>(scene: &Scene<'a>, word: &str) -> Option<Hint<'a>>
         return None;
     }
     match scene.last_line() {
-        LastLine::Result if word != "result" => Some(Hint::Missing {
-            last_line: LastLine::Result,
-            next: scene.paragraph(0).unwrap_or(scene.line_after_infer()),
+        LastLine::Result if word != "result" => Some(match scene.next_item() {
+            Some(next) => Hint::Missing {
+                last_line: LastLine::Result,
+                next,
+            },
+            None => Hint::MissingAbove(LastLine::Result),
         }),
         LastLine::InferOrCand if word == "result" => Some(Hint::Missing {
             last_line: LastLine::Infer,
@@ -53,8 +57,14 @@ pub(crate) fn at_beginning<'a>(scene: &Scene<'a>) -> Option<Hint<'a>>
     if is_operand(token) && !scene.is_on_new_line() {
         return too_many(scene);
     }
-    if scene.has_type(0) || token == "to" || is_type(token) {
+    if scene.has_type(0) {
+        return Some(Hint::Rule(type_rule(scene)));
+    }
+    if token == "to" || is_type(token) {
         return Some(Hint::Rule(Rule::Type));
+    }
+    if token == "(" && has_word(ROOT_ATTRIBUTES, scene.next_token().unwrap_or("")) {
+        return Some(Hint::Rule(root_rule(scene.kind)));
     }
     if is_beginning(token) {
         return missing_line(scene, token);

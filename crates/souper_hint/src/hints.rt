@@ -62,7 +62,13 @@ pub enum Hint<'a> {
         line: usize,
     },
 
-    /// The same, and the last line that is missing if the line `next` begins another item.
+    /// A name, and the line of its definition after the error.
+    DefinedLater {
+        name: &'a str,
+        line: usize,
+    },
+
+    /// The same of its first definition, and the last line that is missing if the line `next` begins another item.
     DefinedBefore {
         name: &'a str,
         line: usize,
@@ -75,6 +81,9 @@ pub enum Hint<'a> {
         last_line: LastLine,
         next: usize,
     },
+
+    /// The last line that is missing somewhere before the error.
+    MissingAbove(LastLine),
 
     /// The last line that is missing at the end of the text.
     MissingAtEnd(LastLine),
@@ -103,13 +112,15 @@ pub enum Rule {
     Negation,
     /// Where a type stands.
     Type,
+    /// The same, of a statement whose operands have another type than its result.
+    OperandType,
     /// Which widths there are.
     Width,
     /// How a name begins.
     Name,
     /// How a comment begins.
     Comment,
-    /// How a range ends.
+    /// How a range ends, and which number that is.
     Range,
     /// Where constants and names stand.
     Operand,
@@ -117,6 +128,16 @@ pub enum Rule {
     RightSide,
     /// Where instructions stand.
     Instruction,
+    /// Where the word of an instruction stands.
+    Infix,
+    /// That a flag of LLVM is none of the grammar.
+    Flag,
+    /// What a block has.
+    Block,
+    /// What a path condition of a block has.
+    Predecessor,
+    /// What a phi has.
+    Phi,
     /// That no comma ends the operands.
     LastOperand,
     /// That no constant is undefined.
@@ -125,8 +146,12 @@ pub enum Rule {
     Decimal,
     /// Where the attributes of a definition stand.
     Attribute,
-    /// Where the attributes of a root stand.
+    /// Where the attributes of a root stand in a replacement.
     RootAttribute,
+    /// Where they stand in a left-hand side.
+    InferAttribute,
+    /// That a right-hand side has none.
+    NoRootAttribute,
     /// That a byte order mark at the beginning is no white space.
     ByteOrderMark,
     /// That one after the beginning is none.
@@ -150,26 +175,50 @@ impl Rule {
                 "write the comparison alone: 'eq', 'ne', 'ult', 'slt', 'ule' or 'sle'",
             Rule::Not => "there is no 'not'; write 'xor' with -1",
             Rule::Negation => "there is no 'neg'; write 'sub' from 0",
-            Rule::Type => {
-                "a type comes after the name that is defined or a constant: '%y:i32 = add %x, 1:i32'"
-            }
-            Rule::Width => "the width of a type is 1 to 65535",
             Rule::Name => "a name begins with '%'",
-            Rule::Comment => "a comment begins with ';'",
-            Rule::Range => "a range ends with ')', as in '(range=[0,8))'",
             Rule::Operand => "a constant or a name is no right side; write it where it is used",
             Rule::RightSide => "the right side after '=' is missing",
             Rule::Instruction => {
                 "an operand is a constant or a name; an instruction has a definition of its own"
             }
+            Rule::Infix => "an instruction begins with its word: 'add %x, 1'",
+            Rule::Flag => "there is no such flag; leave it out",
+            Rule::Block => "'block' takes the number of its predecessors, as in 'block 2'",
+            Rule::Predecessor => {
+                "the index of a predecessor comes after the block, as in 'blockpc %b 0 %x 1'"
+            }
+            Rule::Phi => "'phi' takes a block and a value for each of its predecessors",
             Rule::LastOperand => "no ',' comes after the last operand",
             Rule::Undefined => "there is no 'undef' or 'poison'",
             Rule::Decimal => "numbers are decimal",
+            rule => rule.text_of_part(),
+        }
+    }
+
+    // Of a rule of types, attributes and characters.
+    fn text_of_part(self) -> &'static str {
+        match self {
+            Rule::Type => {
+                "a type comes after the name that is defined or a constant: '%y:i32 = add %x, 1:i32'"
+            }
+            Rule::OperandType => {
+                "a type comes after the name that is defined or a constant: '%x:i32 = var', '1:i32'"
+            }
+            Rule::Width => "the width of a type is 1 to 65535",
+            Rule::Comment => "a comment begins with ';'",
+            Rule::Range => {
+                "a range ends with ')' and does not include its end: '(range=[0,8))' is 0 to 7"
+            }
             Rule::Attribute => "this attribute comes after a definition",
             Rule::RootAttribute => "this attribute comes after 'infer' or 'cand' with its operands",
+            Rule::InferAttribute => "this attribute comes after 'infer' with its name",
+            Rule::NoRootAttribute => {
+                "a right-hand side has no 'demandedBits' and no 'harvestedFromUse'"
+            }
             Rule::ByteOrderMark =>
                 "the text begins with a byte order mark (U+FEFF); save it without",
             Rule::LaterMark => "this is a byte order mark (U+FEFF); remove it",
+            _ => "",
         }
     }
 }
@@ -231,6 +280,10 @@ fn show_line<W: fmt::Write>(f: &mut fmt::Formatter<W>, hint: Hint<'_>) -> fmt::R
             let missing = last_line.text();
             write!(f, "the {missing} line is missing before line {next}")
         }
+        Hint::MissingAbove(last_line) => {
+            let missing = last_line.text();
+            write!(f, "the {missing} line is missing above")
+        }
         Hint::MissingAtEnd(last_line) => {
             let missing = last_line.text();
             write!(f, "the {missing} line is missing at the end")
@@ -261,6 +314,9 @@ impl fmt::Display for Hint<'_> {
             }
             Hint::Operands { word, count } => show_operands(f, word, count),
             Hint::Values { block, count } => show_values(f, block, count),
+            Hint::DefinedLater { name, line } => {
+                write!(f, "'{name}' is defined later, on line {line}")
+            }
             Hint::Rule(rule) => f.write_str(rule.text()),
             hint => show_line(f, hint),
         }

@@ -2,7 +2,7 @@
 //!
 //! Souper IR is the text format of the superoptimizer [Souper](https://github.com/google/souper), which the crate
 //! `souper_ir` reads. [`hint_of`] takes such a text with its error, and gives a [`Hint`], which shows itself in one line, or none. It
-//! takes linear time in the text up to the error, and compares a bounded number of names.
+//! takes linear time in the text up to the end of the item of the error, and compares a bounded number of names.
 #![tactic(auto)]
 
 mod advice;

@@ -26,8 +26,8 @@ pub(crate) struct Marks {
     /// The last statement or last line that begins after an empty line in the item, or after its infer line.
     pub(crate) paragraph: Option<usize>,
 
-    /// The first statement after the infer line.
-    pub(crate) after_infer: Option<usize>,
+    /// Whether a statement begins after the infer line.
+    pub(crate) goes_on: bool,
 
     // Whether the line that ends the item has begun.
     is_ended: bool,
@@ -49,7 +49,7 @@ impl Marks {
         definitions: 0,
         has_infer: false,
         paragraph: None,
-        after_infer: None,
+        goes_on: false,
         is_ended: false,
     };
 
@@ -82,9 +82,7 @@ impl Marks {
         } else if has_empty_line(gap) {
             self.paragraph = Some(first.offset);
         }
-        if self.has_infer && self.after_infer.is_none() {
-            self.after_infer = Some(first.offset);
-        }
+        self.goes_on = self.has_infer;
         self.statement = first.offset;
     }
 

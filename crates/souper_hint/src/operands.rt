@@ -6,8 +6,11 @@ use crate::hints::{Hint, Rule};
 use crate::right_sides::in_place_of;
 use crate::scene::Scene;
 use crate::slips::meant_word;
-use crate::tokens::{is_operand, is_type, is_word};
-use crate::words::{RIGHT_SIDES, is_beginning, is_right_side, operand_count};
+use crate::tokens::{is_name, is_operand, is_type, is_word};
+use crate::words::{
+    FLAGS, NO_VALUES, OTHER_TYPES, RIGHT_SIDES, has_word, is_beginning, is_right_side,
+    operand_count,
+};
 
 // How many operands the statement of the error takes.
 fn count<'a>(scene: &Scene<'a>) -> Option<Hint<'a>>
@@ -31,6 +34,9 @@ pub(crate) fn too_few<'a>(scene: &Scene<'a>) -> Option<Hint<'a>>
     ensures { IfSome result (SuggestsFrom scene.now.front.now) }
 {
     let statement = scene.statement();
+    if statement.word == "phi" && statement.first.is_empty() {
+        return Some(Hint::Rule(Rule::Phi));
+    }
     let wanted = scene.wanted(statement)?;
     if statement.has_attributes || statement.operands >= wanted {
         return None;
@@ -67,10 +73,18 @@ pub(crate) fn comma_after<'a>(scene: &Scene<'a>) -> Option<Hint<'a>>
     ensures { IfSome result (SuggestsFrom scene.now.front.now) }
 {
     let hint = too_many(scene)?;
-    if scene.has_next_on_line() {
-        Some(hint)
+    match scene.next_token() {
+        Some(token) if scene.has_next_on_line() && token != "(" => Some(hint),
+        _ => Some(Hint::Rule(Rule::LastOperand)),
+    }
+}
+
+/// Where a type stands, at a type in the statement of the error.
+pub(crate) fn type_rule(scene: &Scene<'_>) -> Rule {
+    if has_word(OTHER_TYPES, scene.statement().word) {
+        Rule::OperandType
     } else {
-        Some(Hint::Rule(Rule::LastOperand))
+        Rule::Type
     }
 }
 
@@ -79,9 +93,11 @@ pub(crate) fn at_comma<'a>(scene: &Scene<'a>) -> Option<Hint<'a>>
     ensures { IfSome result (SuggestsFrom scene.now.front.now) }
 {
     match scene.token() {
-        Some(_) if scene.has_type(0) => Some(Hint::Rule(Rule::Type)),
+        Some(_) if scene.has_type(0) => Some(Hint::Rule(type_rule(scene))),
         Some(":") => None,
-        Some(token) if is_type(token) && !scene.is_on_new_line() => Some(Hint::Rule(Rule::Type)),
+        Some(token) if is_type(token) && !scene.is_on_new_line() => {
+            Some(Hint::Rule(type_rule(scene)))
+        }
         Some(token) if is_operand(token) && !scene.is_on_new_line() => None,
         _ => too_few(scene),
     }
@@ -114,6 +130,28 @@ fn joined(front: &str, back: &str) -> Option<&'static str> {
     None
 }
 
+// Whether the word is a flag of LLVM that the instruction before it lacks here. A name without its `%` ends a line or has a comma after it.
+fn is_lost_flag(scene: &Scene<'_>, front: &str, word: &str) -> bool {
+    let is_known = has_word(FLAGS, word) || front == "trunc" && is_flag(word);
+    is_known
+        && has_commas(scene)
+        && scene.has_next_on_line()
+        && scene.next_token().is_some_and(|next| next != ",")
+}
+
+// Whether the word is a number or a value of other languages, and no name without its `%`.
+fn is_value(word: &str) -> bool {
+    let digits = word.strip_suffix('h').unwrap_or("");
+    is_hex(digits)
+        || NO_VALUES
+            .split(' ')
+            .any(|other| other.eq_ignore_ascii_case(word))
+}
+
+fn is_hex(digits: &str) -> bool {
+    !digits.is_empty() && digits.bytes().all(|byte| byte.is_ascii_hexdigit())
+}
+
 // Whether commas are between the operands of the statement of the error.
 fn has_commas(scene: &Scene<'_>) -> bool {
     !is_beginning(scene.statement().word)
@@ -132,12 +170,11 @@ fn named<'a>(scene: &Scene<'a>, word: &'a str) -> Option<Hint<'a>>
         return Some(Hint::Lacks('%', word));
     }
     if is_type(word) {
-        return Some(Hint::Rule(Rule::Type));
+        return Some(Hint::Rule(type_rule(scene)));
     }
     match word {
         "undef" | "poison" => return Some(Hint::Rule(Rule::Undefined)),
-        "null" => return None,
-        _ if is_beginning(word) || bit(word).is_some() => return None,
+        _ if is_beginning(word) || bit(word).is_some() || is_value(word) => return None,
         _ => {}
     }
     if is_right_side(word) || in_place_of(word, "").is_some() {
@@ -161,10 +198,14 @@ fn at_word<'a>(scene: &Scene<'a>, front: &str, word: &'a str) -> Option<Hint<'a>
     if let Some(word) = joined(front, word) {
         return Some(Hint::Word(word));
     }
-    if scene.definition(word).is_none()
-        && let Some(bit) = bit(word)
-    {
+    if scene.definition(word).is_some() {
+        return Some(Hint::Lacks('%', word));
+    }
+    if let Some(bit) = bit(word) {
         return Some(Hint::Bit(bit));
+    }
+    if is_lost_flag(scene, front, word) {
+        return Some(Hint::Rule(Rule::Flag));
     }
     named(scene, word)
 }
@@ -189,12 +230,18 @@ pub(crate) fn at_operand<'a>(scene: &Scene<'a>) -> Option<Hint<'a>>
         Some(token) if !scene.is_on_new_line() => token,
         _ => return too_few(scene),
     };
-    let word = scene.statement().word;
+    let statement = scene.statement();
+    let word = statement.word;
     if let Some(hint) = keyword(scene) {
         return Some(hint);
     }
     match token {
-        _ if scene.has_type(0) => Some(Hint::Rule(Rule::Type)),
+        _ if statement.has_attributes => None,
+        _ if word == "block" => Some(Hint::Rule(Rule::Block)),
+        _ if word == "blockpc" && statement.operands == 1 && is_name(token) => {
+            Some(Hint::Rule(Rule::Predecessor))
+        }
+        _ if scene.has_type(0) => Some(Hint::Rule(type_rule(scene))),
         "," if word == "pc" || word == "blockpc" => Some(Hint::NoMark { word, mark: token }),
         ":" | "=" if word == "pc" || word == "blockpc" || word == "cand" => {
             Some(Hint::NoMark { word, mark: token })

@@ -6,11 +6,11 @@ use crate::hints::{Hint, Rule};
 use crate::scene::Scene;
 use crate::slips::meant_word;
 use crate::tokens::{is_after_name, is_operand, is_type, is_word};
-use crate::words::{RIGHT_SIDES, has_word};
+use crate::words::{RIGHT_SIDES, has_word, is_right_side, operand_count};
 use std::alloc::{AllocError, Global};
 
 // Words of other languages, which a slip would turn into ones of another meaning.
-const UNLIKE: &str = "addw subw mulw ash lsh set swap";
+const UNLIKE: &str = "addw subw mulw addn subn muln shln ash lsh set swap";
 
 // The instruction that another language's word stands for.
 fn other_name(word: &str) -> Option<&'static str> {
@@ -23,6 +23,10 @@ fn other_name(word: &str) -> Option<&'static str> {
         "sra" | "sar" | "sshr" => Some("ashr"),
         "sel" | "slct" | "ite" => Some("select"),
         "popcnt" | "popcount" => Some("ctpop"),
+        "addnuwnsw" | "addnswnuw" => Some("addnw"),
+        "subnuwnsw" | "subnswnuw" => Some("subnw"),
+        "mulnuwnsw" | "mulnswnuw" => Some("mulnw"),
+        "shlnuwnsw" | "shlnswnuw" => Some("shlnw"),
         _ => None,
     }
 }
@@ -102,6 +106,30 @@ fn of_word<'a>(word: &str, next: &str) -> Option<Hint<'a>>
     }
 }
 
+// Whether the token is an operator of other languages, or the word of an instruction of two operands.
+fn is_operator(token: &str) -> bool {
+    let is_mark = match token.as_bytes().first() {
+        Some(byte) => matches!(
+            *byte,
+            b'+' | b'-' | b'*' | b'/' | b'&' | b'|' | b'^' | b'<' | b'>'
+        ),
+        None => false,
+    };
+    is_mark || token == "%" || is_right_side(token) && operand_count(token) == Some(2)
+}
+
+// A hint at a name or a number in place of a right side.
+fn at_value<'a>(scene: &Scene<'a>) -> Option<Hint<'a>>
+    ensures { IfSome result (SuggestsFrom scene.now.front.now) }
+{
+    match scene.next_token() {
+        Some(next) if scene.has_next_on_line() && is_operator(next) => {
+            Some(Hint::Rule(Rule::Infix))
+        }
+        _ => Some(Hint::Rule(Rule::Operand)),
+    }
+}
+
 /// A hint where a right side should begin.
 pub(crate) fn at_right_side<'a>(
     alloc: Global,
@@ -116,7 +144,7 @@ pub(crate) fn at_right_side<'a>(
         return Ok(Some(Hint::Rule(Rule::RightSide)));
     }
     if is_operand(token) {
-        return Ok(Some(Hint::Rule(Rule::Operand)));
+        return Ok(at_value(scene));
     }
     if !is_word(token) {
         return Ok(None);

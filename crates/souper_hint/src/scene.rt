@@ -27,6 +27,15 @@ pub(crate) struct Scene<'a> {
     pub(crate) marks: Marks,
 }
 
+fn has_token(text: &str, wanted: &str) -> bool {
+    for token in tokens_of(text) {
+        if token.text == wanted {
+            return true;
+        }
+    }
+    false
+}
+
 fn newlines(text: &str) -> usize {
     text.bytes().filter(|byte| *byte == b'\n').count()
 }
@@ -121,6 +130,37 @@ impl<'a> Scene<'a> {
         None
     }
 
+    /// The line on which the item defines the name first after the error.
+    pub(crate) fn later_definition(&self, name: &str) -> Option<usize> {
+        if self.kind.ends_with(self.statement().word) {
+            return None;
+        }
+        let mut headings = Headings::new();
+        for token in tokens_of(self.back) {
+            if self.kind.ends_with(token.text) {
+                return None;
+            }
+            if let Some(defined) = headings.take(token)
+                && defined.offset > 0
+                && defined.text == name
+            {
+                let lines = newlines(self.back.get(..defined.offset).unwrap_or(""));
+                return Some(self.line.saturating_add(lines));
+            }
+        }
+        None
+    }
+
+    /// Whether the statement or last line of the error has the name, before the error or after it on its line.
+    pub(crate) fn has_operand(&self, name: &str) -> bool {
+        let before = self.front.get(self.marks.statement..).unwrap_or("");
+        let after = match self.back.split_once('\n') {
+            Some((line, _)) => line,
+            None => self.back,
+        };
+        has_token(before, name) || has_token(after, name)
+    }
+
     /// The number of predecessors of the block of this name.
     pub(crate) fn predecessors(&self, name: &str) -> Option<usize> {
         let offset = self.definition(without_percent(name))?;
@@ -170,11 +210,11 @@ impl<'a> Scene<'a> {
         }
     }
 
-    /// The line of the first statement after the infer line, or of the error.
-    pub(crate) fn line_after_infer(&self) -> usize {
-        match self.marks.after_infer {
-            Some(offset) => self.line_of(offset),
-            None => self.line,
+    /// The line that begins another item after the infer line, if that is clear.
+    pub(crate) fn next_item(&self) -> Option<usize> {
+        match self.paragraph(0) {
+            None if !self.marks.goes_on => Some(self.line),
+            line => line,
         }
     }
 }

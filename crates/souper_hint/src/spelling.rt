@@ -3,9 +3,10 @@ ghost use Rattle.std.specs.Prelude.{◌≤◌, IfSome};
 ghost use Rattle.souper_hint.specs.Hints.{SuggestsFrom};
 
 use crate::hints::{Hint, Rule};
+use crate::kinds::Kind;
 use crate::scene::Scene;
 use crate::slips::meant_word;
-use crate::tokens::{is_name_byte, is_number, is_type, is_word};
+use crate::tokens::{is_name_byte, is_number, is_type};
 use crate::words::{ATTRIBUTES, ROOT_ATTRIBUTES, has_word};
 
 // The attribute of the list that the word was meant to be. A letter before an attribute may be a prefix of another meaning.
@@ -20,13 +21,22 @@ fn meant_attribute(word: &str, attributes: &'static str) -> Option<&'static str>
     meant_word(word, &[attributes])
 }
 
+/// Where the attributes of a root stand in an item of the kind.
+pub(crate) fn root_rule(kind: Kind) -> Rule {
+    match kind {
+        Kind::Lhs => Rule::InferAttribute,
+        Kind::Rhs => Rule::NoRootAttribute,
+        Kind::Rep => Rule::RootAttribute,
+    }
+}
+
 /// A hint at the word of an attribute of a definition.
 pub(crate) fn at_attribute<'a>(scene: &Scene<'a>) -> Option<Hint<'a>>
     ensures { IfSome result (SuggestsFrom scene.now.front.now) }
 {
     let word = scene.token()?;
     if has_word(ROOT_ATTRIBUTES, word) {
-        return Some(Hint::Rule(Rule::RootAttribute));
+        return Some(Hint::Rule(root_rule(scene.kind)));
     }
     Some(Hint::Word(meant_attribute(word, ATTRIBUTES)?))
 }
@@ -116,8 +126,8 @@ pub(crate) fn at_type<'a>(scene: &Scene<'a>) -> Option<Hint<'a>>
     if is_type(token) {
         return Some(Hint::Rule(Rule::Width));
     }
-    let digits = match token.get(1..) {
-        Some(rest) if is_word(token) => rest,
+    let digits = match token.chars().next()? {
+        'u' | 's' | 'U' | 'S' | 'I' => token.get(1..)?,
         _ => token,
     };
     if !is_number(digits) {

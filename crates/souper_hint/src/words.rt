@@ -26,6 +26,17 @@ pub(crate) const RIGHT_SIDES: [&str; 6] = [
     COMPARISONS,
 ];
 
+/// The words of instructions that LLVM writes after a type that is not the result's.
+pub(crate) const OTHER_TYPES: &str = "eq ne ult slt ule sle zext sext trunc select extractvalue \
+    sadd.with.overflow uadd.with.overflow ssub.with.overflow usub.with.overflow smul.with.overflow umul.with.overflow";
+
+/// Flags of LLVM that no instruction has.
+pub(crate) const FLAGS: &str =
+    "nneg disjoint samesign fast nnan ninf nsz arcp contract afn reassoc";
+
+/// Values of other languages that no constant has.
+pub(crate) const NO_VALUES: &str = "null nullptr nil none nan inf infinity zeroinitializer";
+
 /// The words that begin a statement without a name.
 pub(crate) const CONDITIONS: &str = "pc blockpc";
 
