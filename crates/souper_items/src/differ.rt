@@ -9,7 +9,8 @@ use souper_records::check::check_run;
 use souper_records::layout::{Layout, PLAIN};
 use souper_records::records::records_of_text;
 use souper_records::report::{report_error, report_not_utf8};
-use souper_records::run::report_output;
+use souper_records::run::end_parts;
+use souper_records::stop::Stop;
 use souper_stream::{StreamItem, not_utf8};
 use souper_watched::Watched;
 use std::alloc::{AllocError, Global};
@@ -41,10 +42,8 @@ pub(crate) fn check_diff<T: StreamItem + Drop, R: BufRead, W: Write, E: Write>(
     let Ok(diff) = diff else {
         return out_of_memory(err);
     };
-    match out.write_all(diff.as_bytes()).and_then(|()| out.flush()) {
-        Ok(()) => 1,
-        Err(fault) => report_output(alloc, &fault, err),
-    }
+    let written = out.write_all(diff.as_bytes()).map(|()| true);
+    end_parts(alloc, name, written.map_err(Stop::Output), out, err)
 }
 
 /// The canonical text of the bytes, in this layout, or the status of the program if they are invalid or memory ran out, which was reported.
@@ -87,10 +86,10 @@ pub(crate) fn check_list<T: StreamItem + Drop, R: BufRead, W: Write, E: Write>(
     }
     match canonical::<T, E>(alloc, PLAIN, name, hints, &bytes, err) {
         Ok(text) if text.as_bytes() == bytes.as_slice() => 0,
-        Ok(_) => match writeln!(out, "{name}").and_then(|()| out.flush()) {
-            Ok(()) => 1,
-            Err(fault) => report_output(alloc, &fault, err),
-        },
+        Ok(_) => {
+            let written = writeln!(out, "{name}").map(|()| true);
+            end_parts(alloc, name, written.map_err(Stop::Output), out, err)
+        }
         Err(status) => status,
     }
 }

@@ -52,10 +52,7 @@ fn append_files(
         return Err(io::Error::new(ErrorKind::NotFound, says));
     }
     found.sort()?;
-    for path in found {
-        paths.push(path)?;
-    }
-    Ok(())
+    Ok(paths.append(&mut found)?)
 }
 
 /// The paths, with the files of a folder in its place: those whose names end in `.lhs`, `.rhs` or `.rep`, as the kind says. A folder that

@@ -7,6 +7,7 @@ use souper_stream::{ChunkSink, ItemReader, StreamItem};
 use souper_watched::Watched;
 use std::alloc::{AllocError, Global};
 use std::fs::File;
+use std::io;
 use std::io::{BufReader, Read, Take, Write};
 
 /// Reports the hint for the error of a whole text, if there is one.
@@ -24,11 +25,11 @@ pub(crate) fn say_hint<E: Write>(
     }
 }
 
-// Whether items were taken, and none was taken back.
-#[derive(Drop)]
+// Whether items were taken, and whether some were taken back.
+#[derive(Default, Drop)]
 struct Taken {
     some: bool,
-    all: bool,
+    back: bool,
 }
 
 impl<T: WholeItem + Drop> Sink<T> for Taken {
@@ -42,7 +43,7 @@ impl<T: WholeItem + Drop> Sink<T> for Taken {
 
 impl<T: WholeItem + Drop> ChunkSink<T> for Taken {
     fn rollback(&mut self) {
-        self.all = false;
+        self.back = true;
     }
 }
 
@@ -56,30 +57,23 @@ const BLOCK: usize = 1 << 14;
 const CHUNK: usize = 1 << 15;
 
 // Whether the file begins with items of the type: those up to a cut point in the bytes that are tried, or all of a short file.
-fn begins_with<T: StreamItem + Drop>(rt: &HostRuntime, path: &str) -> bool {
-    let Ok(file) = File::open(rt, path) else {
-        return false;
-    };
-    let Ok(mut reader) = BufReader::with_capacity(rt.alloc(), BLOCK, file.take(TRIED)) else {
-        return false;
-    };
+fn begins_with<T: StreamItem + Drop>(rt: &HostRuntime, path: &str) -> io::Result<bool> {
+    let file = File::open(rt, path)?.take(TRIED);
+    let mut reader = BufReader::with_capacity(rt.alloc(), BLOCK, file)?;
     let mut parts = ItemReader::new(rt.alloc(), CHUNK);
-    let mut taken = Taken {
-        some: false,
-        all: true,
-    };
+    let mut taken = Taken::default();
     let (alloc, file, sink) = (rt.alloc(), &mut reader, &mut taken);
     let read = parts.read_part::<T, BufReader<Take<File>>, Taken>(alloc, file, None, sink);
-    read.is_ok() && taken.some && taken.all
+    Ok(read.is_ok() && taken.some && !taken.back)
 }
 
 // The other kind as which the file reads.
 fn other_kind(rt: &HostRuntime, kind: Kind, path: &str) -> Option<&'static str> {
-    if kind != Kind::Lhs && begins_with::<LeftHandSide>(rt, path) {
+    if kind != Kind::Lhs && begins_with::<LeftHandSide>(rt, path).unwrap_or(false) {
         Some("lhs")
-    } else if kind != Kind::Rhs && begins_with::<RightHandSide>(rt, path) {
+    } else if kind != Kind::Rhs && begins_with::<RightHandSide>(rt, path).unwrap_or(false) {
         Some("rhs")
-    } else if kind != Kind::Rep && begins_with::<Replacement>(rt, path) {
+    } else if kind != Kind::Rep && begins_with::<Replacement>(rt, path).unwrap_or(false) {
         Some("rep")
     } else {
         None

@@ -15,7 +15,7 @@ use std::io;
 use std::io::{BufRead, BufReader, Write};
 
 // Comments and definitions of a text that its canonical text does not have.
-#[derive(Drop)]
+#[derive(Default, Drop)]
 struct Losses {
     comments: usize,
     definitions: usize,
@@ -86,14 +86,10 @@ fn losses_of<T: StreamItem + Drop, R: BufRead>(alloc: Global, reader: &mut R) ->
         line_buffered: false,
         hints: None,
     };
-    let mut losses = Losses {
-        comments: 0,
-        definitions: 0,
-        taken: 0,
-    };
-    let (mut out, mut err) = (Watched::new(io::sink()), Watched::new(io::sink()));
+    let mut losses = Losses::default();
+    let (out, err) = (&mut Watched::new(io::sink()), &mut Watched::new(io::sink()));
     let source = Source::new(alloc, options);
-    let (sink, out, err) = (&mut losses, &mut out, &mut err);
+    let sink = &mut losses;
     let parts = write_parts::<T, Losses, R, io::Sink, io::Sink>(
         alloc, source, sink, reader, out, err,
     );
@@ -119,11 +115,10 @@ fn shown(alloc: Global, losses: &Losses) -> Result<String, AllocError> {
 
 // Says nothing if nothing is lost.
 fn say<E: Write>(alloc: Global, name: &str, losses: &Losses, verb: &str, err: &mut Watched<E>) {
-    if losses.comments == 0 && losses.definitions == 0 {
-        return;
-    }
-    if let Ok(lost) = shown(alloc, losses) {
-        let _ = writeln!(err, "{name}: {lost} {verb}");
+    if (losses.comments > 0 || losses.definitions > 0)
+        && let Ok(lost) = shown(alloc, losses)
+    {
+        let _ = writeln!(err, "{name}: {lost} {verb} written");
     }
 }
 
@@ -136,11 +131,7 @@ pub(crate) fn say_lost<T: StreamItem + Drop, E: Write>(
 ) {
     if let Some(losses) = losses_of::<T, &[u8]>(alloc, &mut source) {
         let is_one = losses.comments.saturating_add(losses.definitions) == 1;
-        let verb = if is_one {
-            "was not written"
-        } else {
-            "were not written"
-        };
+        let verb = if is_one { "was not" } else { "were not" };
         say(alloc, name, &losses, verb, err);
     }
 }
@@ -165,6 +156,6 @@ pub(crate) fn say_would_be_lost<E: Write>(
         Kind::Rep => losses_of::<Replacement, BufReader<File>>(alloc, &mut reader),
     };
     if let Some(losses) = losses {
-        say(alloc, path, &losses, "would not be written", err);
+        say(alloc, path, &losses, "would not be", err);
     }
 }

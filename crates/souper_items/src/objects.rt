@@ -17,14 +17,12 @@ use std::io::{BufRead, Write};
 
 // The object of a fault of the stream of this name, with the members of a parse error's.
 fn object_of(alloc: Global, name: &str, fault: &ReadFault) -> Result<Value, AllocError> {
-    let (message, line, offset) = match fault {
-        ReadFault::Utf8(bytes) => (
-            String::from_str(alloc, "not UTF-8")?,
-            Some(bytes.line),
-            Some(bytes.offset),
-        ),
-        ReadFault::Io(fault) => (fault.to_string(alloc)?, None, None),
+    let (message, bytes) = match fault {
+        ReadFault::Utf8(bytes) => (String::from_str(alloc, "not UTF-8")?, Some(bytes)),
+        ReadFault::Io(fault) => (fault.to_string(alloc)?, None),
     };
+    let line = bytes.map(|bytes| bytes.line);
+    let offset = bytes.map(|bytes| bytes.offset);
     json!(in alloc; {
         "column": null,
         "file": name,
@@ -42,10 +40,9 @@ fn write_fault<W: Write>(
     out: &mut Watched<W>,
 ) -> Result<(), Stop> {
     let line = object_of(alloc, name, fault)?.to_string(alloc)?;
-    match writeln!(out, "{line}").and_then(|()| out.flush()) {
-        Ok(()) => Ok(()),
-        Err(fault) => Err(Stop::Output(fault)),
-    }
+    writeln!(out, "{line}")
+        .and_then(|()| out.flush())
+        .map_err(Stop::Output)
 }
 
 /// As [`end_parts`], but a failed read and bytes that are not UTF-8 have an object on `out` too.

@@ -60,20 +60,6 @@ impl Action {
     pub(crate) fn remembers(self) -> bool {
         matches!(self, Action::Items(Items::Uniq(..) | Items::Count(..)))
     }
-
-    /// Whether JSON objects are written, and parse errors have such.
-    pub(crate) fn has_objects(self) -> bool {
-        matches!(
-            self,
-            Action::Items(
-                Items::Format(Output::Objects { .. }) | Items::Typed(_, Output::Objects { .. })
-            ) | Action::Keyed(Output::Objects { .. })
-                | Action::Find {
-                    output: Output::Objects { .. },
-                    ..
-                }
-        )
-    }
 }
 
 /// What the program is asked to do.
@@ -86,6 +72,9 @@ pub(crate) struct Task<'m, 'a> {
 
     /// How each file is rewritten by its canonical text, in place of the action, if that is asked for.
     pub(crate) rewriting: Option<Rewriting>,
+
+    /// Whether JSON objects are written, and parse errors have such.
+    pub(crate) has_objects: bool,
 
     /// Whether reading resumes after a refusal, as it does where a refusal has an object.
     pub(crate) recovers: bool,
@@ -157,13 +146,11 @@ fn read_layout(options: &ArgMatches<'_>) -> Layout {
 }
 
 fn read_output(options: &ArgMatches<'_>) -> Output {
-    let layout = read_layout(options);
+    let rename = options.get_flag("rename");
     if options.get_flag("json") {
-        return Output::Objects {
-            rename: layout.rename,
-        };
+        return Output::Objects { rename };
     }
-    Output::Records(layout)
+    Output::Records(read_layout(options))
 }
 
 fn read_color(options: &ArgMatches<'_>) -> Color {
@@ -240,6 +227,7 @@ pub(crate) fn read_task<'m, 'a>(matches: &'m ArgMatches<'a>) -> Option<Task<'m, 
         kind: kind_of_word(options.get_str("KIND").unwrap_or("lhs")),
         action: read_action(name, options)?,
         rewriting: read_rewriting(options),
+        has_objects: options.get_flag("json"),
         recovers: options.get_flag("keep-going") || options.get_flag("json"),
         line_buffered: options.get_flag("line-buffered"),
         nul_ends: options.get_flag("null-data"),

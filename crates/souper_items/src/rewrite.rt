@@ -149,10 +149,8 @@ pub(crate) fn rewrite<T: StreamItem + Drop, E: Write>(
         Ok(target) => target,
         Err(fault) => return failed(alloc, name, &fault, err),
     };
-    let layout = Layout {
-        rename: how.rename,
-        ..PLAIN
-    };
+    let rename = how.rename;
+    let layout = Layout { rename, ..PLAIN };
     let text = match canonical::<T, E>(alloc, layout, name, Some(kind), &target.bytes, err) {
         Ok(text) => text,
         Err(status) => return status,

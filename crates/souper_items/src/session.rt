@@ -91,7 +91,7 @@ impl<'s, W: Write, E: Write> Session<'s, W, E> {
         reader: &mut R,
     ) -> u8 {
         let (alloc, name, hints) = (self.rt.alloc(), options.name, options.hints);
-        let (out, err) = (&mut self.out, &mut self.err);
+        let (seen, out, err) = (&mut self.seen, &mut self.out, &mut self.err);
         match items {
             Items::Format(Output::Records(layout)) => {
                 each_run_with::<T, R, W, E>(alloc, layout, options, reader, out, err)
@@ -108,31 +108,18 @@ impl<'s, W: Write, E: Write> Session<'s, W, E> {
                 typed_objects::<T, R, W, E>(alloc, maker, options, reader, out, err)
             }
             Items::Widths => {
-                let layout = TypedLayout {
-                    form: Form::Widths,
-                    layout: PLAIN,
-                };
-                let mut none = Watched::new(io::sink());
-                typed_run::<T, R, io::Sink, E>(alloc, layout, options, reader, &mut none, err)
+                let (form, layout) = (Form::Widths, PLAIN);
+                let (layout, none) = (TypedLayout { form, layout }, &mut Watched::new(io::sink()));
+                typed_run::<T, R, io::Sink, E>(alloc, layout, options, reader, none, err)
             }
             Items::Uniq(form, layout) => {
-                uniq::<T, R, W, E>((form, layout), options, &mut self.seen, reader, out, err)
+                uniq::<T, R, W, E>((form, layout), options, seen, reader, out, err)
             }
             // The records come at the end.
-            Items::Count(form, layout, _) => {
-                let layout = Layout {
-                    key: false,
-                    ..layout
-                };
-                let mut none = Watched::new(io::sink());
-                uniq::<T, R, io::Sink, E>(
-                    (form, layout),
-                    options,
-                    &mut self.seen,
-                    reader,
-                    &mut none,
-                    err,
-                )
+            Items::Count(form, mut layout, _) => {
+                layout.key = false;
+                let none = &mut Watched::new(io::sink());
+                uniq::<T, R, io::Sink, E>((form, layout), options, seen, reader, none, err)
             }
             Items::Check { diff: false } => {
                 check_run::<T, R, E>(alloc, reader, name, hints, err)
@@ -186,7 +173,7 @@ impl<'s, W: Write, E: Write> Session<'s, W, E> {
     fn fail(&mut self, name: &str, fault: io::Error) -> u8 {
         let parts = Err(Stop::Input(ReadFault::Io(fault)));
         let (alloc, out, err) = (self.rt.alloc(), &mut self.out, &mut self.err);
-        if self.task.action.has_objects() {
+        if self.task.has_objects {
             end_objects(alloc, name, parts, out, err)
         } else {
             end_parts(alloc, name, parts, out, err)
@@ -211,11 +198,9 @@ impl<'s, W: Write, E: Write> Session<'s, W, E> {
             return self.fail_as_output(STANDARD_INPUT);
         }
         meter.begin(STANDARD_INPUT, None);
-        let reader = self.rt.stdin();
-        let input = Input {
-            reader: Metered { reader, meter },
-            nul_ends: self.task.nul_ends,
-        };
+        let (reader, nul_ends) = (self.rt.stdin(), self.task.nul_ends);
+        let reader = Metered { reader, meter };
+        let input = Input { reader, nul_ends };
         match BufReader::with_capacity(self.rt.alloc(), CAPACITY, input) {
             Ok(mut reader) => self.stream(kind, &mut reader, STANDARD_INPUT),
             Err(_) => out_of_memory(&mut self.err),
@@ -324,16 +309,10 @@ impl<'s, W: Write, E: Write> Session<'s, W, E> {
         let status = self.read_files(&mut meter);
         meter.clear();
         match self.task.action {
-            Action::Items(Items::Count(_, layout, summary)) if status != 2 => status.max(
-                count_run(
-                    self.rt.alloc(),
-                    layout,
-                    summary,
-                    &self.seen,
-                    &mut self.out,
-                    &mut self.err,
-                ),
-            ),
+            Action::Items(Items::Count(_, layout, summary)) if status != 2 => {
+                let (seen, out, err) = (&self.seen, &mut self.out, &mut self.err);
+                status.max(count_run(rt.alloc(), layout, summary, seen, out, err))
+            }
             _ => status,
         }
     }
@@ -356,11 +335,6 @@ fn open<'m, 'a>(
     Ok(BufReader::with_capacity(rt.alloc(), CAPACITY, Input { reader, nul_ends })?)
 }
 
-// A seed of random bytes, or a fixed one if the system has none to give.
-fn seed(rt: &HostRuntime) -> Seed {
-    RandomState::new(rt).map_or(Seed::fixed(), Seed::new)
-}
-
 /// Does the task, and returns the status of the program.
 pub(crate) fn run_task<'s, E: Write + Drop>(
     rt: &'s HostRuntime,
@@ -373,12 +347,9 @@ pub(crate) fn run_task<'s, E: Write + Drop>(
         Ok(files) => files,
         Err(status) => return status,
     };
-    let output = if task.is_silent() {
-        None
-    } else {
-        file_id(rt, "/dev/stdout")
-    };
-    let seed = seed(rt);
+    let output = file_id(rt, "/dev/stdout").filter(|_| !task.is_silent());
+    // Of random bytes, or fixed if the system has none to give.
+    let seed = RandomState::new(rt).map_or(Seed::fixed(), Seed::new);
     Session {
         rt,
         task: &task,
