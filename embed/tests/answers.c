@@ -409,7 +409,7 @@ static void widths_and_flaws(void) {
     expect(out[0] == 8 && out[1] == 9 && out[2] == 1 && out[3] == 0 && out[4] == 8 && out[5] == 9, "widths, written", NULL);
     found = widths("%x:i8 = var  %y:i9 = add %x, 1  infer %y", out, 6);
     expect(found.status == SOUPER_NO_WIDTHS && found.location == SOUPER_AT_STATEMENT && found.position == 1, "no widths", NULL);
-    expect(found.reason == SOUPER_CONFLICT && found.left == 9 && found.right == 8 && out[0] == 8, "widths that clash", NULL);
+    expect(found.reason == SOUPER_CONFLICT && found.left == 8 && found.right == 9 && out[0] == 8, "widths that clash", NULL);
     found = widths("%x = var  infer %x", out, 6);
     expect(found.status == SOUPER_NO_WIDTHS && found.reason == SOUPER_UNDETERMINED && found.position == 0, "a width is missing", NULL);
 }

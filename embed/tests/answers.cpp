@@ -213,7 +213,7 @@ void widths() {
            "widths", nullptr);
     expect(typed.root == 1, "the width of the root", nullptr);
     const souper::widths flawed = souper::widths_of(item("%x:i8 = var  %y:i9 = add %x, 1  infer %y"));
-    expect(flawed.results.empty() && flawed.why && to_string(*flawed.why) == "statement 1 (%y): i9 and i8 clash", "no widths", nullptr);
+    expect(flawed.results.empty() && flawed.why && to_string(*flawed.why) == "statement 1 (%y): i8 and i9 clash", "no widths", nullptr);
     souper::error e;
     souper::widths none;
     expect(!souper::try_widths(souper::item{}, none, e) && e.what == souper::status::not_well_formed && e.why.has_value(),

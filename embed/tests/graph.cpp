@@ -333,7 +333,7 @@ void words() {
            "no kind", nullptr);
     expect(shown(op::sadd_with_overflow) == "sadd.with.overflow" && shown(static_cast<op>(59)) == "unknown(59)", "operations", nullptr);
     expect(shown(constant{-1, 8}) == "-1:i8" && shown(constant{5}) == "5", "constants", nullptr);
-    expect(shown(souper::status::not_utf8) == "not UTF-8" && shown(static_cast<souper::status>(10)) == "unknown(10)",
+    expect(shown(souper::status::not_utf8) == "not UTF-8" && shown(static_cast<souper::status>(11)) == "unknown(11)",
            "statuses", nullptr);
     expect(shown(souper::flaw_location::at_cand) == "cand line" && shown(souper::flaw_reason::zero_width) == "a width is 0",
            "parts of flaws", nullptr);

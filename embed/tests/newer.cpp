@@ -198,7 +198,7 @@ void operations() {
 } // namespace
 
 int main() {
-    for (const std::uint32_t number : {10U, 77U, 999U, 1002U, UINT32_MAX}) {
+    for (const std::uint32_t number : {11U, 77U, 999U, 1002U, UINT32_MAX}) {
         statuses(number, "unknown(" + std::to_string(number) + ")");
     }
     flaws();

@@ -117,7 +117,7 @@ def widths(kind: Kind | str, item: Item) -> Widths:
     >>> widths("lhs", item)
     Traceback (most recent call last):
         ...
-    souper.NoWidths: no widths: statement 1 (%y): i9 and i8 clash
+    souper.NoWidths: no widths: statement 1 (%y): i8 and i9 clash
     """
     kind = Kind(kind)
     code = encode(kind, [item])

@@ -249,7 +249,7 @@ pub trait Item: Decode + Encode + LastLines {
     /// assert_eq!(widths.operands, [0, 8]);
     /// let item = parse_left_hand_sides_str("%x:i8 = var  %y:i9 = add %x, 1  infer %y", None)?.remove(0);
     /// let flaw = item.widths()?.unwrap_err();
-    /// assert_eq!(flaw.to_string(), "statement 1 (%y): i9 and i8 clash");
+    /// assert_eq!(flaw.to_string(), "statement 1 (%y): i8 and i9 clash");
     /// # Ok::<(), Box<dyn std::error::Error>>(())
     /// ```
     ///

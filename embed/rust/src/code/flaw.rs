@@ -180,9 +180,9 @@ mod tests {
 
     #[test]
     fn statuses_that_are_not_known_are_errors() {
-        let error = canonical::Error::of_status(10);
-        assert_eq!(error, canonical::Error::UnknownStatus(10));
-        let shown = "the library returned the status unknown(10)";
+        let error = canonical::Error::of_status(11);
+        assert_eq!(error, canonical::Error::UnknownStatus(11));
+        let shown = "the library returned the status unknown(11)";
         assert_eq!(error.to_string(), shown);
         assert_eq!(super::super::Error::from(error.clone()).to_string(), shown);
         assert_eq!(crate::stream::Error::from(error.clone()).to_string(), shown);
