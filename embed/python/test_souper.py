@@ -1437,7 +1437,7 @@ class WidthsOfItems(unittest.TestCase):
         self.assertEqual(souper.widths("lhs", item), souper.Widths((8, 9, 1), (0, 8, 9), 1))
 
     def test_no_statements(self) -> None:
-        item = Item((), Result(Constant(1, 8)))
+        item = Item((), souper.Result(Constant(1, 8)))
         self.assertEqual(souper.widths("rhs", item), souper.Widths((), (), 8))
 
     def test_flaws(self) -> None:
