@@ -94,8 +94,8 @@ asked() { # request
 versions() {
     local version
     version=$(pkg-config --modversion souper) && [ "$version" = "$(pkg-config --modversion souper-static)" ] || return 1
-    asked "$version EXACT" && asked "${version%%.*}" && asked "" && asked "1.0...<2" && refused 'compatible|version' asked 2.0 \
-        && refused 'compatible|version' asked 0.9 && refused 'compatible|version' asked 1.999
+    asked "$version EXACT" && asked "${version%%.*}" && asked "" && asked "2.0...<3" && refused 'compatible|version' asked 3.0 \
+        && refused 'compatible|version' asked 1.0 && refused 'compatible|version' asked 2.999
 }
 
 own_heap() { # the archive alone, over a heap of the program
