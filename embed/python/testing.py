@@ -3,6 +3,7 @@
 from __future__ import annotations
 
 import os
+import signal
 import subprocess
 import sys
 import unittest
@@ -64,6 +65,8 @@ def program(
 
 def main(label: str) -> None:
     """Runs the tests of the program, and prints what was left out and how many passed."""
+    # A shell's background commands ignore interrupts, and so would the programs that are interrupted here.
+    signal.signal(signal.SIGINT, signal.default_int_handler)
     result: Any = unittest.main(exit=False).result
     wrong = len({test.id() for test, _ in [*result.failures, *result.errors]})
     for why in sorted({why for _, why in result.skipped}):
