@@ -1,7 +1,7 @@
 -- Definitions. The first words of a record's head.
 use Rattle.std.specs.Prelude.{◌≡◌, ℕ, List, ◌∷◌, ◌++◌, Bool, true, false, Option, Some, None, if◌then◌else◌, codes, bytes_eq}
-use Rattle.souper_format.specs.declared.command.Kind.{Kind}
-use Rattle.souper_format.specs.Commands.{kind_of_word}
+use Rattle.souper_errors.specs.declared.kind.Kind.{Kind}
+use Rattle.souper_errors.specs.Kinds.{kind_of_word}
 
 -- status 1 means that the text is rejected, 0 that it is not
 abbrev pub is_refused_by_word : List ℕ → Option Bool

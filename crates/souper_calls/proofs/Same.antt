@@ -6,10 +6,11 @@ use Rattle.std.specs.Str.{IsUtf8}
 use Rattle.souper_graph.specs.Values.{Item}
 use Rattle.souper_graph.specs.Syntax.Spelling.{ItemType, left_hand_side, right_hand_side, replacement, TextSpells, SpellsNone}
 use Rattle.souper_ir.specs.Laws.Peeks.{some_is}
-use Rattle.souper_format.specs.declared.command.Kind.{Kind}
-use Rattle.souper_format.specs.declared.command.Kind.TheVariants.{Lhs, Rhs, Rep}
+use Rattle.souper_errors.specs.declared.kind.Kind.{Kind}
+use Rattle.souper_errors.specs.declared.kind.Kind.TheVariants.{Lhs, Rhs, Rep}
 use Rattle.souper_format.specs.declared.items.Items.{Items}
-use Rattle.souper_format.specs.Kinds.{item_type_of, kind_of_items, view_items, SameItems}
+use Rattle.souper_ir.specs.Kinds.{item_type_of}
+use Rattle.souper_format.specs.Kinds.{kind_of_items, view_items, SameItems}
 use Rattle.souper_calls.specs.Kinds.{type_of_number, OfType}
 use Rattle.souper_calls.specs.Outcomes.{BothSpell, AreSameItems, AreNotSame, IsNoTextInput, SpellsSome}
 use Rattle.souper_calls.specs.Failures.{IsFailure, outcome_of}

@@ -4,7 +4,7 @@ ghost use Rattle.std.specs.Prelude.{◌≡◌, [], None, Err, IsOk, IsOkAnd, IfO
 ghost use Rattle.std.specs.Str.{IsUtf8};
 ghost use Rattle.souper_graph.specs.Syntax.Tokens.{IsLastGap};
 ghost use Rattle.souper_ir.specs.Answers.{IsStrError};
-ghost use Rattle.souper_format.specs.Kinds.{item_type_of};
+ghost use Rattle.souper_ir.specs.Kinds.{item_type_of};
 ghost use Rattle.souper_code.specs.Codes.{code_of_items};
 ghost use Rattle.souper_calls.specs.Kinds.{IsKind};
 ghost use Rattle.souper_calls.specs.Outcomes.{IsCodeOfText, CodesTo};
@@ -13,9 +13,8 @@ ghost use Rattle.souper_calls.specs.declared.inputs.Failure.TheVariants.{NotUtf8
 
 use crate::inputs::{Failure, failure_of, kind_and_source};
 use souper_code::encode::Encode;
-use souper_format::command::Kind;
 use souper_ir::ast::{Arena, LeftHandSide, Replacement, RightHandSide, Statement};
-use souper_ir::parse::{ParseError, Sink, WholeItem, parse_into};
+use souper_ir::parse::{Kind, ParseError, Sink, WholeItem, parse_into};
 use std::alloc::{AllocError, Global};
 
 // The code of each item that was taken.

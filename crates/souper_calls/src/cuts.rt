@@ -1,7 +1,7 @@
 //! The cut points of a text of the kind with a number.
 ghost use Rattle.std.specs.Prelude.{◌≡◌, ◌⊎◌, ◌↔◌, None, IfOk, IfErr};
 ghost use Rattle.std.specs.Str.{IsUtf8};
-ghost use Rattle.souper_format.specs.Kinds.{item_type_of};
+ghost use Rattle.souper_ir.specs.Kinds.{item_type_of};
 ghost use Rattle.souper_errors.specs.Places.{IsLines};
 ghost use Rattle.souper_calls.specs.Kinds.{type_of_number, IsKind};
 ghost use Rattle.souper_calls.specs.Outcomes.{HasNoPlace};
@@ -10,8 +10,8 @@ ghost use Rattle.souper_stream.specs.Segments.{IsFirstSegment, HasBadLine};
 
 use crate::inputs::{kind_and_source, read_kind};
 use crate::outcome::{DONE, NO_KIND, NOT_UTF8, SouperOutcome};
-use souper_format::command::Kind;
 use souper_ir::ast::{LeftHandSide, Replacement, RightHandSide};
+use souper_ir::parse::Kind;
 use souper_stream::{last_cut, lines_len, segment_len};
 use std::io;
 

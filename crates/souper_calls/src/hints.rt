@@ -3,22 +3,12 @@ ghost use Rattle.std.specs.Prelude.{◌≤◌, ◌+◌, List, length, IfOk, IfSo
 ghost use Rattle.souper_graph.specs.Values.{Item};
 ghost use Rattle.souper_graph.specs.Syntax.Spelling.{SpellsNone, TextSpells};
 ghost use Rattle.souper_errors.specs.Errors.{offset_of};
-ghost use Rattle.souper_format.specs.Kinds.{item_type_of};
+ghost use Rattle.souper_ir.specs.Kinds.{item_type_of};
 
-use souper_format::command::Kind;
 use souper_format::items::read_items;
 use souper_hint::hint_of;
-use souper_ir::parse::{Before, ParseError, ParseErrorKind};
+use souper_ir::parse::{Before, Kind, ParseError, ParseErrorKind};
 use std::alloc::{AllocError, Global};
-
-// The kind, as hints name it.
-fn hint_kind(kind: Kind) -> souper_hint::Kind {
-    match kind {
-        Kind::Lhs => souper_hint::Kind::Lhs,
-        Kind::Rhs => souper_hint::Kind::Rhs,
-        Kind::Rep => souper_hint::Kind::Rep,
-    }
-}
 
 // The hint for the parse error of a source that this number of lines precedes; the hint counts them too. Empty if there is none.
 fn text_of_hint(
@@ -35,7 +25,7 @@ fn text_of_hint(
     if located.kind() == ParseErrorKind::Memory {
         return Err(AllocError);
     }
-    match hint_of(alloc, hint_kind(kind), 0, source, &located)? {
+    match hint_of(alloc, kind, 0, source, &located)? {
         Some(hint) => hint.to_string(alloc),
         None => Ok(String::new(alloc)),
     }

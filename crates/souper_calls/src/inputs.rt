@@ -5,16 +5,16 @@ ghost use Rattle.std.specs.List.{AllByRecursion};
 ghost use Rattle.souper_graph.specs.WellFormed.{WellFormed};
 ghost use Rattle.souper_graph.specs.Syntax.Spelling.{TextSpells};
 ghost use Rattle.souper_graph.specs.Syntax.Tokens.{IsLastGap};
-ghost use Rattle.souper_format.specs.Kinds.{item_type_of, kind_of_items, view_items};
+ghost use Rattle.souper_ir.specs.Kinds.{item_type_of};
+ghost use Rattle.souper_format.specs.Kinds.{kind_of_items, view_items};
 ghost use Rattle.souper_calls.specs.Kinds.{type_of_number, IsKind, OfType};
 ghost use Rattle.souper_calls.specs.Outcomes.{FormatsTo};
 ghost use Rattle.souper_calls.specs.Failures.{IsFailure, IsFailureOf, IsInputFailure, IsRefusalOf, outcome_of, shown_of};
 ghost use Rattle.souper_calls.specs.declared.inputs.Failure.TheVariants.{NotUtf8};
 
 use crate::outcome::{NO_KIND, NOT_UTF8, OUT_OF_MEMORY, REFUSED, SouperOutcome};
-use souper_format::command::Kind;
 use souper_format::items::{Items, format_text, read_items};
-use souper_ir::parse::ParseError;
+use souper_ir::parse::{Kind, ParseError};
 use std::alloc::Global;
 use std::str;
 

@@ -1,7 +1,7 @@
 //! Where a text is at fault, in a form that C can read.
 ghost use Rattle.std.specs.Prelude.{◌≡◌, ◌≤◌, ◌⊎◌, ◌↔◌, None};
 ghost use Rattle.std.specs.Str.{IsUtf8};
-ghost use Rattle.souper_format.specs.Kinds.{item_type_of};
+ghost use Rattle.souper_ir.specs.Kinds.{item_type_of};
 ghost use Rattle.souper_calls.specs.Kinds.{type_of_number, IsKind};
 ghost use Rattle.souper_calls.specs.Outcomes.{SpellsSome};
 ghost use Rattle.souper_calls.specs.Locations.{IsLocationOf, HasNoLocation, LocatesFault};

@@ -4,7 +4,7 @@ ghost use Rattle.std.specs.Prelude.{◌≡◌, ◌<◌, ℕ, [], None, Err, IsOk
 ghost use Rattle.std.specs.Str.{IsUtf8};
 ghost use Rattle.souper_graph.specs.Syntax.Tokens.{IsLastGap};
 ghost use Rattle.souper_ir.specs.Answers.{IsStrError};
-ghost use Rattle.souper_format.specs.Kinds.{item_type_of};
+ghost use Rattle.souper_ir.specs.Kinds.{item_type_of};
 ghost use Rattle.souper_records.specs.Records.{AreRecordsOf};
 ghost use Rattle.souper_calls.specs.Kinds.{IsKind};
 ghost use Rattle.souper_calls.specs.Records.{layout_of, RecordsTo};
@@ -12,9 +12,8 @@ ghost use Rattle.souper_calls.specs.Failures.{IsFailure};
 ghost use Rattle.souper_calls.specs.declared.inputs.Failure.TheVariants.{NotUtf8};
 
 use crate::inputs::{Failure, failure_of, kind_and_source};
-use souper_format::command::Kind;
 use souper_ir::ast::{LeftHandSide, Replacement, RightHandSide};
-use souper_ir::parse::ParseError;
+use souper_ir::parse::{Kind, ParseError};
 use souper_records::layout::{Delimiter, Layout};
 use souper_records::records::records_of_text;
 use std::alloc::Global;

@@ -1,14 +1,14 @@
 //! The canonical texts of the items whose code is given.
 
 ghost use Rattle.std.specs.Prelude.{◌≡◌, [], IfOk, IfErr, IsOkAnd, string_bytes};
-ghost use Rattle.souper_format.specs.Kinds.{item_type_of};
+ghost use Rattle.souper_ir.specs.Kinds.{item_type_of};
 ghost use Rattle.souper_code.specs.Writing.{IsWritten, IsWriteError};
 ghost use Rattle.souper_calls.specs.Failures.{outcome_of_stop};
 
 use crate::outcome::{NO_CODE, NOT_WELL_FORMED, OUT_OF_MEMORY, SouperOutcome};
 use souper_code::write::{Place, WriteError, write_items};
-use souper_format::command::Kind;
 use souper_ir::ast::{LeftHandSide, Replacement, RightHandSide};
+use souper_ir::parse::Kind;
 use std::alloc::Global;
 
 fn outcome_at(status: u32, place: Place) -> SouperOutcome

@@ -6,11 +6,13 @@
 #![tactic(auto)]
 
 mod error;
+mod kind;
 pub mod laws;
 mod place;
 mod read;
 mod unstyled;
 
 pub use error::{Before, ParseError, ParseErrorKind, Refusal, WithLocation};
+pub use kind::Kind;
 pub use place::Location;
 pub use read::{ReadError, locate, widen};

@@ -5,8 +5,8 @@ ghost use Rattle.souper_watched.specs.Watching.{has_failed};
 ghost use Rattle.souper_records.specs.Reports.{hint_line};
 ghost use Rattle.souper_find.specs.Runs.{ReportedHint};
 
-use souper_hint::{Kind, hint_of};
-use souper_ir::parse::{ParseError, parse_replacements_str};
+use souper_hint::hint_of;
+use souper_ir::parse::{Kind, ParseError, parse_replacements_str};
 use souper_watched::Watched;
 use std::alloc::Global;
 use std::io::Write;

@@ -2,7 +2,7 @@
 use Rattle.std.specs.Prelude.{◌≡◌, ℕ, List, ◌++◌, false, codes, string_bytes, Option, None, Some}
 use Rattle.souper_format.specs.declared.command.Command.{Command}
 use Rattle.souper_format.specs.declared.command.Command.TheVariants.{Format, Same}
-use Rattle.souper_format.specs.Kinds.{item_type_of}
+use Rattle.souper_ir.specs.Kinds.{item_type_of}
 use Rattle.souper_watched.specs.Streams.{Stream, IsGiven, IsGivenNothing}
 use Rattle.souper_format.specs.Runs.{IsFormatRun, IsKnownRun}
 use Rattle.souper_format.specs.SameRuns.{FileRead, IsFilesRun}

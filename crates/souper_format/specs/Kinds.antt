@@ -4,17 +4,10 @@ use Rattle.std.specs.List.{AllZip}
 use Rattle.souper_graph.specs.Values.{Item}
 use Rattle.souper_graph.specs.Sameness.{SameGraph}
 use Rattle.souper_graph.specs.View.{view_left_hand_side, view_right_hand_side, view_replacement}
-use Rattle.souper_graph.specs.Syntax.Spelling.{ItemType, left_hand_side, right_hand_side, replacement}
-use Rattle.souper_format.specs.declared.command.Kind.{Kind}
-use Rattle.souper_format.specs.declared.command.Kind.TheVariants.{Lhs, Rhs, Rep}
+use Rattle.souper_errors.specs.declared.kind.Kind.{Kind}
+use Rattle.souper_errors.specs.declared.kind.Kind.TheVariants.{Lhs, Rhs, Rep}
 use Rattle.souper_format.specs.declared.items.Items.{Items}
 use Rattle.souper_format.specs.declared.items.Items.TheVariants.{Lhs as lhs_items, Rhs as rhs_items, Rep as rep_items}
-
--- the type of the items of a kind
-abbrev pub item_type_of : Kind → ItemType
-item_type_of Lhs = left_hand_side
-item_type_of Rhs = right_hand_side
-item_type_of Rep = replacement
 
 -- the kind of the items of a list
 abbrev pub kind_of_items : Items → Kind

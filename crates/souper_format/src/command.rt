@@ -1,33 +1,8 @@
 //! The command that the arguments after the program's name ask for.
 ghost use Rattle.std.specs.Prelude.{◌≡◌};
-ghost use Rattle.souper_format.specs.Commands.{kind_of_word, command_of};
+ghost use Rattle.souper_format.specs.Commands.{command_of};
 
-/// A type of items.
-#[derive(Clone, Copy, Debug, PartialEq, Eq)]
-pub enum Kind {
-    /// Left-hand sides: what an optimization looks for.
-    Lhs,
-
-    /// Right-hand sides: what may replace it.
-    Rhs,
-
-    /// Replacements: both.
-    Rep,
-}
-
-impl Kind {
-    /// The kind that the word stands for on a command line: `lhs`, `rhs` or `rep`.
-    pub fn from_word(word: &str) -> Option<Kind>
-        ensures { result ≡ kind_of_word word.now }
-    {
-        match word {
-            "lhs" => Some(Kind::Lhs),
-            "rhs" => Some(Kind::Rhs),
-            "rep" => Some(Kind::Rep),
-            _ => None,
-        }
-    }
-}
+pub use souper_ir::parse::Kind;
 
 /// What the program is asked to do.
 #[derive(Debug, PartialEq, Eq, Drop)]

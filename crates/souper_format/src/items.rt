@@ -10,7 +10,8 @@ ghost use Rattle.souper_ir.specs.Answers.{IsStrError};
 ghost use Rattle.souper_errors.specs.Errors.{kind_of, at_end_of};
 ghost use Rattle.souper_ir.specs.Stopping.{TextStops};
 ghost use Rattle.souper_errors.specs.declared.error.ParseErrorKind.TheVariants.{Parse};
-ghost use Rattle.souper_format.specs.Kinds.{item_type_of, kind_of_items, view_items};
+ghost use Rattle.souper_ir.specs.Kinds.{item_type_of};
+ghost use Rattle.souper_format.specs.Kinds.{kind_of_items, view_items};
 ghost use Rattle.souper_format.specs.Formatted.{IsFormatted, SpellsRenumbered};
 
 use crate::command::Kind;

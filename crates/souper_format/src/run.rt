@@ -1,6 +1,6 @@
 //! One run of the formatter, over any reader and two writers.
 ghost use Rattle.std.specs.Prelude.{◌≡◌, false, true, string_bytes, IfOk, IfErr, OnOk, OnErr};
-ghost use Rattle.souper_format.specs.Kinds.{item_type_of};
+ghost use Rattle.souper_ir.specs.Kinds.{item_type_of};
 ghost use Rattle.souper_watched.specs.Watching.{watched_inner, has_failed, has_ended};
 ghost use Rattle.souper_watched.specs.Streams.{stream, IsGiven};
 ghost use Rattle.souper_format.specs.Reporting.{ReportedIoError};

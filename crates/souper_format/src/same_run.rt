@@ -2,7 +2,8 @@
 ghost use Rattle.std.specs.Prelude.{◌≡◌, ℕ, List, IfOk, IfErr};
 ghost use Rattle.std.specs.List.{AllByRecursion};
 ghost use Rattle.souper_graph.specs.WellFormed.{WellFormed};
-ghost use Rattle.souper_format.specs.Kinds.{item_type_of, kind_of_items, view_items, SameItems};
+ghost use Rattle.souper_ir.specs.Kinds.{item_type_of};
+ghost use Rattle.souper_format.specs.Kinds.{kind_of_items, view_items, SameItems};
 ghost use Rattle.souper_watched.specs.Streams.{stream};
 ghost use Rattle.souper_format.specs.SameRuns.{FileRead, ReadSpells, ReadError, IsFilesRun, IsComparison};
 

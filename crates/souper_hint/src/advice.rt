@@ -6,14 +6,13 @@ ghost use Rattle.souper_hint.specs.Hints.{SuggestsFrom};
 
 use crate::beginnings::at_beginning;
 use crate::hints::{Hint, Rule};
-use crate::kinds::Kind;
 use crate::message::Message;
 use crate::names::{redefinition, unknown_block, unknown_name};
 use crate::operands::{at_comma, at_end, at_name, at_operand, more_than_enough};
 use crate::right_sides::at_right_side;
 use crate::scene::Scene;
 use crate::spelling::{at_attribute, at_root_attribute, at_type, number_of_base};
-use souper_errors::ParseError;
+use souper_errors::{Kind, ParseError};
 use std::alloc::{AllocError, Global};
 
 // A hint at a character that begins no token.

@@ -3,13 +3,13 @@ ghost use Rattle.std.specs.Prelude.{IfSome};
 ghost use Rattle.souper_hint.specs.Hints.{SuggestsFrom};
 
 use crate::hints::{Hint, LastLine, Rule};
-use crate::kinds::Kind;
 use crate::operands::{comma_after, too_many, type_rule};
 use crate::scene::Scene;
 use crate::slips::meant_word;
 use crate::spelling::root_rule;
 use crate::tokens::{is_number, is_operand, is_type, is_word};
 use crate::words::{CONDITIONS, ROOT_ATTRIBUTES, has_word, is_beginning};
+use souper_errors::Kind;
 
 // The words that begin this last line.
 fn words_of(last_line: LastLine) -> &'static str {

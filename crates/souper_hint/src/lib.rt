@@ -9,7 +9,6 @@ mod advice;
 mod beginnings;
 mod headings;
 mod hints;
-mod kinds;
 mod marks;
 mod message;
 mod names;
@@ -24,4 +23,4 @@ mod words;
 
 pub use advice::hint_of;
 pub use hints::{Hint, LastLine, Rule};
-pub use kinds::Kind;
+pub use souper_errors::Kind;

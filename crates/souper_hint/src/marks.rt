@@ -1,9 +1,9 @@
 //! What comes before an error: where its item begins, and its statement.
 
 use crate::headings::Headings;
-use crate::kinds::Kind;
 use crate::tokens::{Token, tokens_of};
-use crate::words::is_beginning;
+use crate::words::{ends_item, is_beginning};
+use souper_errors::Kind;
 
 /// What the text before an error has, by offsets.
 #[derive(Clone, Copy)]
@@ -88,7 +88,7 @@ impl Marks {
 
     // The word begins a last line, if it is a word of one.
     fn end_with(&mut self, kind: Kind, word: &str) {
-        if kind.ends_with(word) {
+        if ends_item(kind, word) {
             self.is_ended = true;
             self.has_infer = false;
         } else if word == "infer" {

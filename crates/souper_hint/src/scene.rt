@@ -3,11 +3,11 @@ ghost use Rattle.std.specs.Prelude.{◌≡◌};
 
 use crate::headings::{Headings, without_percent};
 use crate::hints::LastLine;
-use crate::kinds::Kind;
 use crate::marks::{Marks, has_empty_line};
 use crate::statement::Statement;
 use crate::tokens::{is_type, is_word, tokens_from, tokens_of};
-use crate::words::operand_count;
+use crate::words::{ends_item, operand_count};
+use souper_errors::Kind;
 
 /// A rejected text at its error.
 #[derive(Clone, Copy)]
@@ -132,12 +132,12 @@ impl<'a> Scene<'a> {
 
     /// The line on which the item defines the name first after the error.
     pub(crate) fn later_definition(&self, name: &str) -> Option<usize> {
-        if self.kind.ends_with(self.statement().word) {
+        if ends_item(self.kind, self.statement().word) {
             return None;
         }
         let mut headings = Headings::new();
         for token in tokens_of(self.back) {
-            if self.kind.ends_with(token.text) {
+            if ends_item(self.kind, token.text) {
                 return None;
             }
             if let Some(defined) = headings.take(token)

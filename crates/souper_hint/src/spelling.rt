@@ -3,11 +3,11 @@ ghost use Rattle.std.specs.Prelude.{◌≤◌, IfSome};
 ghost use Rattle.souper_hint.specs.Hints.{SuggestsFrom};
 
 use crate::hints::{Hint, Rule};
-use crate::kinds::Kind;
 use crate::scene::Scene;
 use crate::slips::meant_word;
 use crate::tokens::{is_name_byte, is_number, is_type};
 use crate::words::{ATTRIBUTES, ROOT_ATTRIBUTES, has_word};
+use souper_errors::Kind;
 
 // The attribute of the list that the word was meant to be. A letter before an attribute may be a prefix of another meaning.
 fn meant_attribute(word: &str, attributes: &'static str) -> Option<&'static str> {

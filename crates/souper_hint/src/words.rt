@@ -1,5 +1,7 @@
 //! The words of the grammar, and how many operands they take.
 
+use souper_errors::Kind;
+
 // The words of right sides, by the number of their operands.
 const NO_OPERAND: &str = "hole var reservedinst reservedconst";
 
@@ -74,4 +76,13 @@ pub(crate) fn operand_count(word: &str) -> Option<usize> {
 /// Whether the word begins a statement or a last line.
 pub(crate) fn is_beginning(word: &str) -> bool {
     matches!(word, "pc" | "blockpc" | "infer" | "result" | "cand")
+}
+
+/// Whether the word begins the line that an item of the kind ends with.
+pub(crate) fn ends_item(kind: Kind, word: &str) -> bool {
+    match kind {
+        Kind::Lhs => word == "infer",
+        Kind::Rhs => word == "result",
+        Kind::Rep => word == "result" || word == "cand",
+    }
 }

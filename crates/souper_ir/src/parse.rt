@@ -27,5 +27,5 @@ pub use item::{
 pub use memory::Memory;
 pub use parser::{Parser, Result};
 pub use sink::Sink;
-pub use souper_errors::{Before, Location, ParseError, ParseErrorKind, WithLocation};
+pub use souper_errors::{Before, Kind, Location, ParseError, ParseErrorKind, WithLocation};
 pub use traits::{Parse, Peek};

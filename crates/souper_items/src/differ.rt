@@ -3,8 +3,7 @@
 use crate::hint::say_hint;
 use crate::{failed, out_of_memory};
 use souper_diff::unified::unified;
-use souper_hint::Kind;
-use souper_ir::parse::{Before, ParseErrorKind, WholeItem};
+use souper_ir::parse::{Before, Kind, ParseErrorKind, WholeItem};
 use souper_records::check::check_run;
 use souper_records::layout::{Layout, PLAIN};
 use souper_records::records::records_of_text;

@@ -1,26 +1,16 @@
 //! Folders among the arguments, each of which means its files of items.
 
 use crate::failed;
-use souper_hint::Kind;
+use souper_ir::parse::Kind;
 use souper_watched::Watched;
 use std::alloc::Global;
 use std::io::{ErrorKind, Write};
 use std::{fs, io};
 
-/// The kind that the word names.
-pub(crate) fn kind_of_word(word: &str) -> Option<Kind> {
-    match word {
-        "lhs" => Some(Kind::Lhs),
-        "rhs" => Some(Kind::Rhs),
-        "rep" => Some(Kind::Rep),
-        _ => None,
-    }
-}
-
 /// The kind that the end of a file's name says.
 pub(crate) fn kind_of_name(path: &str) -> Option<Kind> {
     let (_, word) = path.rsplit_once('.')?;
-    kind_of_word(word)
+    Kind::from_word(word)
 }
 
 fn is_folder(rt: &HostRuntime, path: &str) -> bool {

@@ -1,8 +1,8 @@
 //! Hints: what the writer of an invalid text may have meant, and for who gave another kind than a file has.
 
-use souper_hint::{Kind, hint_of};
+use souper_hint::hint_of;
 use souper_ir::ast::{Arena, LeftHandSide, Replacement, RightHandSide, Statement};
-use souper_ir::parse::{ParseError, Sink, WholeItem};
+use souper_ir::parse::{Kind, ParseError, Sink, WholeItem};
 use souper_stream::{ChunkSink, ItemReader, StreamItem};
 use souper_watched::Watched;
 use std::alloc::{AllocError, Global};

@@ -1,8 +1,7 @@
 //! What a canonical text leaves out of the text that it is made from: comments, and definitions that nothing uses.
 
-use souper_hint::Kind;
 use souper_ir::ast::{Arena, Item, LeftHandSide, Replacement, RightHandSide, Statement};
-use souper_ir::parse::{Sink, WholeItem};
+use souper_ir::parse::{Kind, Sink, WholeItem};
 use souper_records::options::ReadOptions;
 use souper_records::parts::{Part, PartSink, Source, write_parts};
 use souper_records::rejected::Rejected;

@@ -1,10 +1,9 @@
 //! The command line.
 
-use crate::folders::kind_of_word;
 use crate::rewrite::Rewriting;
 use clap::ArgMatches;
 use souper_find::search::Choice;
-use souper_hint::Kind;
+use souper_ir::parse::Kind;
 use souper_records::layout::{Delimiter, Layout, Summary};
 use souper_records::output::Output;
 use souper_typed::Form;
@@ -224,7 +223,7 @@ pub(crate) fn read_task<'m, 'a>(matches: &'m ArgMatches<'a>) -> Option<Task<'m, 
     let (name, options) = matches.subcommand()?;
     Some(Task {
         // The word of a kind, or `auto`. `find` has no such argument.
-        kind: kind_of_word(options.get_str("KIND").unwrap_or("lhs")),
+        kind: Kind::from_word(options.get_str("KIND").unwrap_or("lhs")),
         action: read_action(name, options)?,
         rewriting: read_rewriting(options),
         has_objects: options.get_flag("json"),

@@ -4,7 +4,7 @@ use crate::differ::canonical;
 use crate::losses::say_lost;
 use crate::{failed, out_of_memory};
 use souper_cli::progress::{Meter, Metered};
-use souper_hint::Kind;
+use souper_ir::parse::Kind;
 use souper_records::layout::{Layout, PLAIN};
 use souper_stream::StreamItem;
 use souper_watched::Watched;

@@ -1,5 +1,5 @@
 -- Definitions. What trying all worlds says of a replacement.
-use Rattle.std.specs.Prelude.{◌≡◌, ℕ, ◌-◌, ◌^◌, ◌<◌, ◌≤◌, min, Bool, List}
+use Rattle.std.specs.Prelude.{◌≡◌, ℕ, ◌-◌, ◌^◌, ◌<◌, ◌≤◌, min, Bool, List, length}
 use Rattle.souper_graph.specs.Values.{Item}
 use Rattle.souper_graph.specs.WellFormed.{WellFormed}
 use Rattle.souper_widths.specs.Maps.{WidthMap}
@@ -13,6 +13,7 @@ use Rattle.souper_meaning.specs.Statements.{out}
 use Rattle.souper_meaning.specs.Sound.{Meets, RefinesEnding, Sound, Vacuous}
 use Rattle.souper_meaning.specs.Evaluable.{IsEvaluable}
 use Rattle.souper_meaning.specs.Numbering.{world_count, IsWorldNumber}
+use Rattle.souper_meaning.specs.Stepping.{HasPlaces}
 
 -- the result refines the replaced root
 abbrev pub RefinesIn : Item → WidthMap → World → Type 0
@@ -45,7 +46,7 @@ pub record SomeMeets (mode : Mode) (a : Item) (m : WidthMap) : Type 0 where
 -- the verdict is right, if the worlds are not too many
 abbrev pub IsVerdictWithin : Mode → Item → WidthMap → List Bool → Verdict → Type 0
 IsVerdictWithin mode a m marks sound_variant = Sound mode a m × SomeMeets mode a m
-IsVerdictWithin mode a m marks (refuted_variant w) = IsFirstRefuting mode a m marks (view_world w)
+IsVerdictWithin mode a m marks (refuted_variant w) = HasPlaces (length a.statements) (view_world w) × IsFirstRefuting mode a m marks (view_world w)
 IsVerdictWithin mode a m marks vacuous_variant = Vacuous mode a m
 IsVerdictWithin mode a m marks (too_many_variant n) = ⊥
 

@@ -26,8 +26,8 @@ pub enum Verdict {
     /// In each world that meets the facts and conditions the result may stand for the replaced root, and there is such a world.
     Sound,
 
-    /// The first world that meets the facts and conditions and in which the result may not stand for the replaced root. It has
-    /// an entry for each statement, and 0 where a statement is given nothing.
+    /// The first world that meets the facts and conditions and in which the result may not stand for the replaced root. Each of
+    /// its lists has an entry for each statement. The entries of needed inputs, blocks and freezes count.
     Refuted(World),
 
     /// No world meets the facts and conditions.

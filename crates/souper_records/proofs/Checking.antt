@@ -1,6 +1,6 @@
 -- Canonical streams. A text has one list of items, so it is canonical or not.
 use Rattle.std.proofs.Common.{inl, inr, ℕ, Bool, false, List, [], Option, refl, sym, ap, ◌∙◌, subst}
-use Rattle.souper_hint.specs.declared.kinds.Kind.{Kind}
+use Rattle.souper_errors.specs.declared.kind.Kind.{Kind}
 use Rattle.std.proofs.KnownBytes.{Appends-nil, Appends-trans, Appends-kept}
 use Rattle.souper_records.proofs.Prelude.{Item, ItemType, TextSpells, texts_of, concat, all_lines, Watched, Stream, stream, IsGiven, IsGivenNothing}
 use Rattle.souper_ir.proofs.Items.Lists.{text_alone}

@@ -4,7 +4,7 @@ use Rattle.std.specs.Io.KnownBytes.{Consumes}
 use Rattle.souper_records.specs.Prelude.{Item, ItemType, TextSpells, AreAll, Stream, IsGiven, IsGivenNothing}
 use Rattle.souper_graph.specs.Text.{texts_of}
 use Rattle.souper_diff.specs.Comparisons.{DifferOnLine}
-use Rattle.souper_hint.specs.declared.kinds.Kind.{Kind}
+use Rattle.souper_errors.specs.declared.kind.Kind.{Kind}
 use Rattle.souper_records.specs.Outcomes.{WritesParts}
 use Rattle.souper_records.specs.declared.stop.ReadFault.{ReadFault}
 use Rattle.souper_records.specs.Reports.{ReportedMemory, ReportedReadFault}

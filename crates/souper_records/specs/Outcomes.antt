@@ -9,7 +9,7 @@ use Rattle.souper_ir.specs.Sinks.{PrefixSpells}
 use Rattle.souper_ir.specs.Stopping.{TextStops}
 use Rattle.souper_stream.specs.Segments.{Line, concat, all_lines, HasNoCut, AreParts, PartsSpell}
 use Rattle.souper_stream.specs.declared.reader.ItemReader.{ItemReader}
-use Rattle.souper_hint.specs.declared.kinds.Kind.{Kind}
+use Rattle.souper_errors.specs.declared.kind.Kind.{Kind}
 use Rattle.souper_records.specs.Reports.{Refusal, AreRefusalLines}
 use Rattle.souper_ir.specs.Starts.{PrefixSpellsFrom, TextSpellsFrom}
 use Rattle.souper_stream.specs.Starts.{ItemsStartAt}

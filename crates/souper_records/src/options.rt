@@ -1,6 +1,6 @@
 //! How a stream is read.
 
-use souper_hint::Kind;
+use souper_ir::parse::Kind;
 
 /// The name of a stream, and how it is read.
 #[derive(Clone, Copy)]

@@ -3,8 +3,8 @@ ghost use Rattle.std.specs.Prelude.{◌≡◌, None, IfOk, option_map, option_co
 ghost use Rattle.souper_records.specs.Reports.{refusal_of, hint_line, AreRefusalLines};
 
 use crate::report::line_of_refusal;
-use souper_hint::{Kind, hint_of};
-use souper_ir::parse::ParseError;
+use souper_hint::hint_of;
+use souper_ir::parse::{Kind, ParseError};
 use std::alloc::{AllocError, Global};
 
 /// A parse error of a part of a stream, with its hint.

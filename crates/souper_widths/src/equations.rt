@@ -80,7 +80,7 @@ pub(crate) fn push_operand_ties(
     Ok(())
 }
 
-// Appends the ties of a row at a position, but for those of its operands.
+// Appends the ties of a row at a position. Its operands' ties are appended elsewhere.
 fn push_row_ties(ties: &mut Vec<Tie>, position: usize, row: Row) -> Result<(), AllocError>
     requires fits { 2 * position + 1 < 2 ^ 64 }
     ensures { OnOk result (ties.new.items ≡ ties.old.items ++ flat_map (ties_of 0 row) (row_equations position row)) }

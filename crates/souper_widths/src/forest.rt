@@ -43,7 +43,7 @@ fn put_below(parents: &mut [usize], numbers: &mut [u16], high: usize, low: usize
     parents[high] = low;
 }
 
-// Makes one class of those of two nodes. The error is their widths, if these differ.
+// Joins the classes of two nodes. The error is the two widths, if they differ.
 fn join(parents: &mut [usize], numbers: &mut [u16], x: usize, y: usize) -> Result<(), (u16, u16)>
     requires classes { AreClasses parents.old numbers.old }
     requires x_within { x < length parents.old }

@@ -1,7 +1,7 @@
 use Rattle.std.proofs.Common.{rules}
 use Rattle.std.specs.String.{string_bytes}
 use Rattle.souper_graph.specs.Syntax.Spelling.{SpellsNone}
-use Rattle.souper_format.specs.Kinds.{item_type_of}
+use Rattle.souper_ir.specs.Kinds.{item_type_of}
 use Rattle.souper_calls.proofs.HintsWritten.{is_rejected, hint_is_written, hint_is_short}
 use Rattle.souper_calls.proofs.souper_hint.Goals as goal
 

@@ -1,5 +1,5 @@
 use Rattle.std.proofs.Common.{rules, ◌≡◌, Some}
-use Rattle.souper_format.specs.Kinds.{item_type_of}
+use Rattle.souper_ir.specs.Kinds.{item_type_of}
 use Rattle.souper_calls.specs.Kinds.{type_of_number}
 use Rattle.souper_calls.proofs.Writing.{only_memory}
 use Rattle.souper_calls.proofs.souper_write.Goals as goal

@@ -1,7 +1,7 @@
 //! Runs of the commands over texts that are in memory.
 use crate::checks::{Ran, equal, text};
 use souper_format::watched::Watched;
-use souper_hint::Kind;
+use souper_ir::parse::Kind;
 use souper_records::layout::{Layout, PLAIN};
 use souper_records::options::ReadOptions;
 use souper_records::output::Output;

@@ -1,5 +1,5 @@
 use Rattle.std.specs.String.{string_bytes}
-use Rattle.souper_format.specs.Kinds.{item_type_of}
+use Rattle.souper_ir.specs.Kinds.{item_type_of}
 use Rattle.replay_answers.proofs.Stored.{accepted, not_accepted}
 use Rattle.replay_answers.proofs.answers.is_as_stored.Goals as goal
 use Rattle.replay_answers.proofs.answers.is_as_stored.Goals.{then-not-stored, else-not-stored}

@@ -1,5 +1,5 @@
 use Rattle.std.proofs.Common.{subst}
-use Rattle.souper_format.specs.Kinds.{item_type_of}
+use Rattle.souper_ir.specs.Kinds.{item_type_of}
 use Rattle.souper_calls.specs.Failures.{IsFailure}
 use Rattle.souper_calls.proofs.Failures.{of_error}
 use Rattle.souper_calls.proofs.codes.code.Goals as goal

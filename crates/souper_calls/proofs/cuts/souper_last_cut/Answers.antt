@@ -1,5 +1,5 @@
 use Rattle.std.proofs.Common.{arith, refl}
-use Rattle.souper_format.specs.Kinds.{item_type_of}
+use Rattle.souper_ir.specs.Kinds.{item_type_of}
 use Rattle.souper_calls.proofs.WholeLines.{no_other_lines, cuts_last}
 use Rattle.souper_calls.proofs.cuts.souper_last_cut.Goals as goal
 

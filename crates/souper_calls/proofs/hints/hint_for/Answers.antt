@@ -1,7 +1,7 @@
 use Rattle.std.proofs.Common.{rules, ◌≡◌}
 use Rattle.souper_errors.specs.Errors.{kind_of}
 use Rattle.souper_errors.specs.declared.error.ParseErrorKind.TheVariants.{Parse}
-use Rattle.souper_format.specs.Kinds.{item_type_of}
+use Rattle.souper_ir.specs.Kinds.{item_type_of}
 use Rattle.souper_calls.proofs.Failures.{offset_within, spells_none}
 use Rattle.souper_calls.proofs.hints.hint_for.Goals as goal
 

@@ -1,4 +1,4 @@
-use Rattle.souper_format.specs.Kinds.{item_type_of}
+use Rattle.souper_ir.specs.Kinds.{item_type_of}
 use Rattle.souper_calls.proofs.Locations.{located}
 use Rattle.souper_calls.proofs.location.souper_locate.Goals as goal
 

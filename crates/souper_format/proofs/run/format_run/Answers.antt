@@ -1,4 +1,4 @@
-use Rattle.souper_format.specs.Kinds.{item_type_of}
+use Rattle.souper_ir.specs.Kinds.{item_type_of}
 use Rattle.souper_watched.specs.Streams.{stream}
 use Rattle.souper_format.proofs.RunLemmas.{known_of_run}
 use Rattle.souper_format.proofs.run.format_run.Goals as goal

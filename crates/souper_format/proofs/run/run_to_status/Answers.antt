@@ -1,6 +1,6 @@
 use Rattle.std.proofs.Common.{sym, subst}
 use Rattle.std.proofs.KnownBytes.{Keeps-refl}
-use Rattle.souper_format.specs.Kinds.{item_type_of}
+use Rattle.souper_ir.specs.Kinds.{item_type_of}
 use Rattle.souper_watched.specs.Streams.{stream}
 use Rattle.souper_format.specs.Runs.{ReadAll}
 use Rattle.souper_format.proofs.RunLemmas.{status_of_error}

@@ -1,6 +1,7 @@
 use Rattle.std.proofs.Common.{inl, inr, sym, ◌∙◌}
 use Rattle.std.proofs.KnownBytes.{Keeps-refl}
-use Rattle.souper_format.specs.Kinds.{item_type_of, view_items}
+use Rattle.souper_ir.specs.Kinds.{item_type_of}
+use Rattle.souper_format.specs.Kinds.{view_items}
 use Rattle.souper_watched.specs.Streams.{stream}
 use Rattle.souper_format.proofs.SameRunLemmas.{stopped_at, compared}
 use Rattle.souper_format.proofs.same_run.compare_files.Goals as goal

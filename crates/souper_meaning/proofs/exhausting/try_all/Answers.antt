@@ -46,18 +46,20 @@ pub returns-then-refutes-clause-decided : goal.returns-then-refutes-clause-decid
 returns-then-refutes-clause-decided c =
     let a : Item = view_parts c.args.parts.now in
     let m : WidthMap = view_widths c.args.plan.now.widths in
-    let t = c.refutes.ensures.0 c.if-refutes.true in
-    record {
-      world = world_here (view_mode c.args.mode) a m c.args.plan.now.needed.items c.requires.planned.well_formed c.requires.planned.marked c.args.counts.now c.requires.size c.requires.counts c.loop-number.numbered
-          c.loop-number.invariant.numbered;
-      meets = c.trial_of-trial.ensures.met.0 t.0;
-      fails = λ r. t.1 (c.trial_of-trial.ensures.refined.1 r);
-      number = c.loop-number._number;
-      inside = omega (arith, c.loop-number-test.true, c.requires.world_count);
-      numbered = number_here (view_mode c.args.mode) a m c.args.plan.now.needed.items c.requires.planned.well_formed c.requires.planned.marked c.args.counts.now c.requires.size c.requires.counts c.loop-number.numbered
-          c.loop-number.invariant.numbered c.loop-number._number (c.loop-number.invariant.number c.loop-number-test.true);
-      before = c.loop-number.invariant.tried.refine;
-    }
+    let t = c.refutes.ensures.0 c.if-refutes.true in (
+      c.loop-number.invariant.numbered.places,
+      record {
+        world = world_here (view_mode c.args.mode) a m c.args.plan.now.needed.items c.requires.planned.well_formed c.requires.planned.marked c.args.counts.now c.requires.size c.requires.counts c.loop-number.numbered
+            c.loop-number.invariant.numbered;
+        meets = c.trial_of-trial.ensures.met.0 t.0;
+        fails = λ r. t.1 (c.trial_of-trial.ensures.refined.1 r);
+        number = c.loop-number._number;
+        inside = omega (arith, c.loop-number-test.true, c.requires.world_count);
+        numbered = number_here (view_mode c.args.mode) a m c.args.plan.now.needed.items c.requires.planned.well_formed c.requires.planned.marked c.args.counts.now c.requires.size c.requires.counts c.loop-number.numbered
+            c.loop-number.invariant.numbered c.loop-number._number (c.loop-number.invariant.number c.loop-number-test.true);
+        before = c.loop-number.invariant.tried.refine;
+      },
+    )
 
 pub step-requires-clause-counts : goal.step-requires-clause-counts
 step-requires-clause-counts c =
