@@ -88,24 +88,6 @@ pub fn format_run<R: Read, W: Write, E: Write>(
     ensures known { IsKnownRun (item_type_of kind)
         (R.remaining (watched_inner input.old)) (stream W.contents out.old out.new) result }
 {
-    run_to_status(alloc, kind, input, out, err)
-}
-
-// The run, by its first clause alone.
-fn run_to_status<R: Read, W: Write, E: Write>(
-    alloc: Global,
-    kind: Kind,
-    input: &mut Watched<R>,
-    out: &mut Watched<W>,
-    err: &mut Watched<E>,
-) -> u8
-    requires input_works { has_failed input.old ≡ false }
-    requires input_begins { has_ended input.old ≡ false }
-    requires out_works { has_failed out.old ≡ false }
-    requires err_works { has_failed err.old ≡ false }
-    ensures { IsFormatRun (item_type_of kind)
-        (stream R.remaining input.old input.new) (stream W.contents out.old out.new) (stream E.contents err.old err.new) result }
-{
     let source = match read_text(alloc, input) {
         Ok(source) => source,
         Err(ReadFault::Failed(fault)) => {
