@@ -68,7 +68,8 @@ fn segment_has_the_lines_of_the_input(rt: HostRuntime) {
     let alloc = rt.alloc();
     let text = format!(in alloc; "{FRONT}{SEGMENT}").expect(&rt, FRONT);
     let error = parse_error(alloc, Kind::Lhs, text.as_str()).expect(&rt, SEGMENT);
-    let want = "'%left' is defined on line 4";
+    let want =
+        "'%left' is defined on line 4; if line 5 begins another item, the 'infer' line is missing before it";
     is_hint(&rt, alloc, (Kind::Lhs, 0, text.as_str()), &error, want);
     is_hint(&rt, alloc, (Kind::Lhs, FRONT.len(), SEGMENT), &error, want);
 }

@@ -635,7 +635,7 @@ a type comes after the name that is defined or a constant: '%y:i32 = add %x, 1:i
 %y = zext i8 %x to i32
 infer %y
 ---
-a type comes after the name that is defined or a constant: '%x:i32 = var', '1:i32'
+a type comes after the name that is defined or a constant: '%x:i8 = var', '%y:i32 = zext %x'
 === lhs type after var
 %x = var i8
 infer %x
@@ -990,7 +990,7 @@ a type comes after the name that is defined or a constant: '%y:i32 = add %x, 1:i
 %y = zext %x to i32
 infer %y
 ---
-a type comes after the name that is defined or a constant: '%y:i32 = add %x, 1:i32'
+a type comes after the name that is defined or a constant: '%x:i8 = var', '%y:i32 = zext %x'
 === lhs undef
 %x = var
 %y = add %x, undef
@@ -1318,10 +1318,18 @@ infer %x
 ; one
 %x = var
 %y = var
+%y = add %x, 1
+infer %y
+---
+'%y' is defined on line 3
+=== lhs second definition of the first name
+; one
+%x = var
+%y = var
 %x = add %y, 1
 infer %x
 ---
-'%x' is defined on line 2
+'%x' is defined on line 2; if line 4 begins another item, the 'infer' line is missing before it
 === lhs second definition on the same line
 %x = var %x = var
 infer %x
@@ -1512,13 +1520,13 @@ a type comes after the name that is defined or a constant: '%x:i32 = var', '1:i3
 %y = %x + 4
 infer %y
 ---
-an instruction begins with its word: 'add %x, 1'
+write 'add' before its operands: 'add %x, 1'
 === lhs instruction between operands
 %x = var
 %y = %x mul 4
 infer %y
 ---
-an instruction begins with its word: 'add %x, 1'
+write 'mul' before its operands: 'mul %x, 1'
 === lhs type of a real number
 %x:f32 = var
 infer %x
@@ -1559,19 +1567,19 @@ the 'result' line is missing above
 %y = zext nneg %x
 infer %y
 ---
-there is no such flag; leave it out
+there is no such flag; without it the meaning may change
 === lhs flag of or
 %x = var
 %y = or disjoint %x, 1
 infer %y
 ---
-there is no such flag; leave it out
+there is no such flag; without it the meaning may change
 === lhs flag before a type
 %x = var
 %y = select fast i1 %x, 1, 2
 infer %y
 ---
-there is no such flag; leave it out
+there is no such flag; without it the meaning may change
 === lhs flag as a name
 %x = var
 %y = add fast, %x
@@ -1624,4 +1632,388 @@ infer %p
 infer %y
 ---
 did you mean 'addnw'?
+=== lhs binary number in place of demanded bits, after white space
+%x = var
+infer %x (demandedBits = 0b1011)
+---
+
+=== lhs binary number in place of demanded bits, on another line
+%x = var
+infer %x (demandedBits =
+0b1011)
+---
+
+=== lhs binary number in place of demanded bits, after a comment
+%x = var
+infer %x (demandedBits = ; bits
+0b1011)
+---
+
+=== lhs binary number in place of known bits, after white space
+%x = var (knownBits = 0b10)
+infer %x
+---
+
+=== lhs binary number in place of known bits, after a space
+%x = var (knownBits= 0b10)
+infer %x
+---
+
+=== lhs hex number in place of demanded bits, with a letter after it
+%x = var
+infer %x (demandedBits=1Fh)
+---
+
+=== lhs misspelt name near another operand
+%left = var
+%y = add %left, %lfet
+infer %y
+---
+
+=== lhs misspelt name near an operand after it
+%count = var
+%y = sub %cuont, %count
+infer %y
+---
+
+=== lhs minus between operands
+%x = var
+%y = %x - 1
+infer %y
+---
+write 'sub' before its operands: 'sub %x, 1'
+=== lhs minus before the number
+%x = var
+%y = %x -1
+infer %y
+---
+write 'sub' before its operands: 'sub %x, 1'
+=== lhs minus before a negative number
+%x = var
+%y = %x - -1
+infer %y
+---
+write 'sub' before its operands: 'sub %x, 1'
+=== lhs minus without white space
+%x = var
+%y = %x-1
+infer %y
+---
+write 'sub' before its operands: 'sub %x, 1'
+=== lhs star between operands
+%x = var
+%y = %x * 2
+infer %y
+---
+write 'mul' before its operands: 'mul %x, 1'
+=== lhs ampersand between operands
+%x = var
+%y = %x & 1
+infer %y
+---
+write 'and' before its operands: 'and %x, 1'
+=== lhs bar between operands
+%x = var
+%y = %x | 1
+infer %y
+---
+write 'or' before its operands: 'or %x, 1'
+=== lhs caret between operands
+%x = var
+%y = %x ^ -1
+infer %y
+---
+write 'xor' before its operands: 'xor %x, 1'
+=== lhs shift between operands
+%x = var
+%y = %x << 1
+infer %y
+---
+write 'shl' before its operands: 'shl %x, 1'
+=== lhs shift without white space
+%x = var
+%y = %x<<1
+infer %y
+---
+write 'shl' before its operands: 'shl %x, 1'
+=== lhs two equals signs between operands
+%x = var
+%y = %x == 3
+infer %y
+---
+write 'eq' before its operands: 'eq %x, 1'
+=== lhs one equals sign between operands
+%x = var
+%y = %x = 3
+infer %y
+---
+write 'eq' before its operands: 'eq %x, 1'
+=== lhs exclamation mark between operands
+%x = var
+%y = %x != 3
+infer %y
+---
+write 'ne' before its operands: 'ne %x, 1'
+=== lhs constant before an operator
+%x = var
+%y = 1 + %x
+infer %y
+---
+write 'add' before its operands: 'add %x, 1'
+=== lhs word of a comparison between operands
+%x = var
+%y = %x ult 3
+infer %y
+---
+write 'ult' before its operands: 'ult %x, 1'
+=== lhs word of a sum between operands
+%x = var
+%y = %x add 1
+infer %y
+---
+write 'add' before its operands: 'add %x, 1'
+=== lhs slash between operands
+%x = var
+%y = %x / 2
+infer %y
+---
+write 'udiv' (unsigned) or 'sdiv' (signed)
+=== lhs percent sign between operands
+%x = var
+%y = %x % 2
+infer %y
+---
+write 'urem' (unsigned) or 'srem' (signed)
+=== lhs shift right between operands
+%x = var
+%y = %x >> 1
+infer %y
+---
+write 'lshr' (unsigned) or 'ashr' (signed)
+=== lhs less between operands
+%x = var
+%y = %x < 3
+infer %y
+---
+write 'ult' (unsigned) or 'slt' (signed)
+=== lhs less or equal between operands
+%x = var
+%y = %x <= 3
+infer %y
+---
+write 'ule' (unsigned) or 'sle' (signed)
+=== lhs greater between operands
+%x = var
+%y = %x > 3
+infer %y
+---
+write 'ult' (unsigned) or 'slt' (signed) with the operands swapped
+=== lhs greater or equal between operands
+%x = var
+%y = %x >= -3
+infer %y
+---
+write 'ule' (unsigned) or 'sle' (signed) with the operands swapped
+=== lhs operator of two characters of another meaning
+%x = var
+%y = %x && %x
+infer %y
+---
+a constant or a name is no right side; write it where it is used
+=== lhs comment after a name
+%x = var
+%y = %x // one
+infer %y
+---
+a constant or a name is no right side; write it where it is used
+=== lhs name before a right side
+%x = var
+%y = %x = add %x, 1
+infer %y
+---
+a constant or a name is no right side; write it where it is used
+=== lhs name before another definition
+%x = var
+%y = %x
+%z = add %y, 1
+infer %z
+---
+a constant or a name is no right side; write it where it is used
+=== lhs name before a typed definition
+%x = var
+%y = %x
+%z:i8 = add %y, 1
+infer %z
+---
+a constant or a name is no right side; write it where it is used
+=== lhs word like a shift, shrnuw
+%x = var
+%y = shrnuw %x, 1
+infer %y
+---
+
+=== lhs word like a shift, shrnsw
+%x = var
+%y = shrnsw %x, 1
+infer %y
+---
+
+=== lhs word like a shift, shrnw
+%x = var
+%y = shrnw %x, 1
+infer %y
+---
+
+=== lhs word like a shift, lshlexact
+%x = var
+%y = lshlexact %x, 1
+infer %y
+---
+
+=== lhs true in place of the index
+%b = block 2
+%c = var
+blockpc %b true %c 1
+infer %c
+---
+the index of a predecessor comes after the block, as in 'blockpc %b 0 %x 1'
+=== lhs word in place of the index
+%b = block 2
+%c = var
+blockpc %b c 1
+infer %c
+---
+the index of a predecessor comes after the block, as in 'blockpc %b 0 %x 1'
+=== lhs greater as in LLVM in one word
+%x = var
+%y = icmpugt %x, 1
+infer %y
+---
+write 'ult' with the operands swapped
+=== lhs comparison as in LLVM in one word
+%x = var
+%y = icmpult %x, 1
+infer %y
+---
+write the comparison alone: 'eq', 'ne', 'ult', 'slt', 'ule' or 'sle'
+=== lhs greater as in LLVM after a flag
+%x = var
+%y = icmp samesign ugt i32 %x, 1
+infer %y
+---
+write 'ult' with the operands swapped
+=== lhs infer line is missing, without an empty line
+%0 = var
+%1 = add %0, 1
+%0 = var
+infer %0
+---
+'%0' is defined on line 1; if line 3 begins another item, the 'infer' line is missing before it
+=== lhs second definition of the first name on the line of another
+%0 = var
+%1 = add %0, 1 %0 = var
+infer %0
+---
+'%0' is defined on line 1
+=== rep result line is missing, without an empty line, before the same name
+%0 = var
+infer %0
+%0 = var
+infer %0
+result %0
+---
+'%0' is defined on line 1; if line 3 begins another item, the 'result' line is missing before it
+=== lhs second definition of the first name of the second item
+%0 = var
+infer %0
+%1 = var
+%0 = var
+%1 = var
+infer %0
+---
+'%1' is defined on line 3; if line 5 begins another item, the 'infer' line is missing before it
+=== rep result line after a whole replacement
+%x = var
+cand %x 1
+result %x
+---
+
+=== lhs name one slip away from two others
+%pt = var
+%ptr = var
+infer %ptt
+---
+
+=== lhs name with capitals near two others
+%ptr = var
+%pt = var
+infer %PTR
+---
+did you mean '%ptr'?
+=== lhs hex number with a letter after it, as the first operand
+%x = var
+%y = add 1Fh, %x
+infer %y
+---
+numbers are decimal: 31
+=== lhs hex number with a letter after it, as the last operand
+%x = var
+%y = add %x, 0FFh
+infer %y
+---
+numbers are decimal: 255
+=== lhs hex number of decimal digits with a letter after it
+%x = var
+%y = add %x, -10H
+infer %y
+---
+numbers are decimal: -16
+=== lhs word with a letter after white space
+%x = var
+%y = add %x, 1 Fh
+infer %y
+---
+
+=== lhs number with letters that are no digits
+%x = var
+%y = add %x, 1gh
+infer %y
+---
+
+=== lhs type after the number of a block
+%b = block 2:i32
+%p = phi %b, 1, 2
+infer %p
+---
+'block' takes the number of its predecessors, as in 'block 2'
+=== lhs type after the number of a block without a colon
+%b = block 2 i32
+%p = phi %b, 1, 2
+infer %p
+---
+'block' takes the number of its predecessors, as in 'block 2'
+=== lhs type before a definition after a block
+%b = block 2
+i32 %x = var
+infer %x
+---
+a type comes after the name that is defined or a constant: '%y:i32 = add %x, 1:i32'
+=== lhs types of a truncation
+%x = var
+%y = trunc i32 %x to i8
+infer %y
+---
+a type comes after the name that is defined or a constant: '%x:i8 = var', '%y:i32 = zext %x'
+=== lhs type of the operand of a conversion
+%x = var
+%y = zext %x:i8
+infer %y
+---
+a type comes after the name that is defined or a constant: '%x:i8 = var', '%y:i32 = zext %x'
+=== lhs type of the operand of a conversion with a type
+%x = var
+%y:i32 = zext i8 %x
+infer %y
+---
+a type comes after the name that is defined or a constant: '%x:i8 = var', '%y:i32 = zext %x'
 ";

@@ -20,7 +20,7 @@ fn words_of(last_line: LastLine) -> &'static str {
     }
 }
 
-// The line that a replacement lacks before this last line.
+// The line that a replacement lacks before this last line. Right after another replacement it has no name for an infer line.
 fn missing_line<'a>(scene: &Scene<'a>, word: &str) -> Option<Hint<'a>>
     ensures { IfSome result (SuggestsFrom scene.now.front.now) }
 {
@@ -35,7 +35,7 @@ fn missing_line<'a>(scene: &Scene<'a>, word: &str) -> Option<Hint<'a>>
             },
             None => Hint::MissingAbove(LastLine::Result),
         }),
-        LastLine::InferOrCand if word == "result" => Some(Hint::Missing {
+        LastLine::InferOrCand if word == "result" && !scene.marks.is_ended => Some(Hint::Missing {
             last_line: LastLine::Infer,
             next: scene.line,
         }),
@@ -61,7 +61,11 @@ pub(crate) fn at_beginning<'a>(scene: &Scene<'a>) -> Option<Hint<'a>>
         return Some(Hint::Rule(type_rule(scene)));
     }
     if token == "to" || is_type(token) {
-        return Some(Hint::Rule(Rule::Type));
+        return Some(Hint::Rule(if scene.is_on_new_line() {
+            Rule::Type
+        } else {
+            type_rule(scene)
+        }));
     }
     if token == "(" && has_word(ROOT_ATTRIBUTES, scene.next_token().unwrap_or("")) {
         return Some(Hint::Rule(root_rule(scene.kind)));

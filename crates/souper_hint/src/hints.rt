@@ -20,8 +20,11 @@ pub enum Hint<'a> {
     /// One of two words: the unsigned and the signed instruction.
     Either(&'static str, &'static str),
 
-    /// The same, with the operands swapped.
+    /// One of two words, the unsigned and the signed instruction, with the operands swapped.
     EitherSwapped(&'static str, &'static str),
+
+    /// The word of an instruction, which comes before its operands.
+    Infix(&'a str),
 
     /// The value of a number of another base.
     Decimal {
@@ -68,7 +71,7 @@ pub enum Hint<'a> {
         line: usize,
     },
 
-    /// The same of its first definition, and the last line that is missing if the line `next` begins another item.
+    /// A name, the line of its first definition, and the last line that is missing if the line `next` begins another item.
     DefinedBefore {
         name: &'a str,
         line: usize,
@@ -112,8 +115,10 @@ pub enum Rule {
     Negation,
     /// Where a type stands.
     Type,
-    /// The same, of a statement whose operands have another type than its result.
+    /// Where a type stands in a statement whose operands have another type than its result.
     OperandType,
+    /// Where the types of a conversion stand.
+    ConversionType,
     /// Which widths there are.
     Width,
     /// How a name begins.
@@ -128,8 +133,6 @@ pub enum Rule {
     RightSide,
     /// Where instructions stand.
     Instruction,
-    /// Where the word of an instruction stands.
-    Infix,
     /// That a flag of LLVM is none of the grammar.
     Flag,
     /// What a block has.
@@ -148,13 +151,13 @@ pub enum Rule {
     Attribute,
     /// Where the attributes of a root stand in a replacement.
     RootAttribute,
-    /// Where they stand in a left-hand side.
+    /// Where the attributes of a root stand in a left-hand side.
     InferAttribute,
-    /// That a right-hand side has none.
+    /// That a right-hand side has no attributes of a root.
     NoRootAttribute,
     /// That a byte order mark at the beginning is no white space.
     ByteOrderMark,
-    /// That one after the beginning is none.
+    /// That a byte order mark after the beginning is no white space.
     LaterMark,
 }
 
@@ -181,8 +184,7 @@ impl Rule {
             Rule::Instruction => {
                 "an operand is a constant or a name; an instruction has a definition of its own"
             }
-            Rule::Infix => "an instruction begins with its word: 'add %x, 1'",
-            Rule::Flag => "there is no such flag; leave it out",
+            Rule::Flag => "there is no such flag; without it the meaning may change",
             Rule::Block => "'block' takes the number of its predecessors, as in 'block 2'",
             Rule::Predecessor => {
                 "the index of a predecessor comes after the block, as in 'blockpc %b 0 %x 1'"
@@ -204,6 +206,9 @@ impl Rule {
             Rule::OperandType => {
                 "a type comes after the name that is defined or a constant: '%x:i32 = var', '1:i32'"
             }
+            Rule::ConversionType => {
+                "a type comes after the name that is defined or a constant: '%x:i8 = var', '%y:i32 = zext %x'"
+            }
             Rule::Width => "the width of a type is 1 to 65535",
             Rule::Comment => "a comment begins with ';'",
             Rule::Range => {
@@ -218,7 +223,20 @@ impl Rule {
             Rule::ByteOrderMark =>
                 "the text begins with a byte order mark (U+FEFF); save it without",
             Rule::LaterMark => "this is a byte order mark (U+FEFF); remove it",
-            _ => "",
+            Rule::Comparison
+            | Rule::Not
+            | Rule::Negation
+            | Rule::Name
+            | Rule::Operand
+            | Rule::RightSide
+            | Rule::Instruction
+            | Rule::Flag
+            | Rule::Block
+            | Rule::Predecessor
+            | Rule::Phi
+            | Rule::LastOperand
+            | Rule::Undefined
+            | Rule::Decimal => "",
         }
     }
 }
@@ -306,6 +324,7 @@ impl fmt::Display for Hint<'_> {
                 f,
                 "write '{unsigned}' (unsigned) or '{signed}' (signed) with the operands swapped"
             ),
+            Hint::Infix(word) => { write!(f, "write '{word}' before its operands: '{word} %x, 1'") }
             Hint::Decimal { is_negative, value } => show_decimal(f, is_negative, value),
             Hint::Bit(true) => write!(f, "write '1:i1' for 'true'"),
             Hint::Bit(false) => write!(f, "write '0:i1' for 'false'"),

@@ -27,10 +27,10 @@ pub(crate) struct Marks {
     pub(crate) paragraph: Option<usize>,
 
     /// Whether a statement begins after the infer line.
-    pub(crate) goes_on: bool,
+    pub(crate) continues: bool,
 
-    // Whether the line that ends the item has begun.
-    is_ended: bool,
+    /// Whether the line that ends the item has begun.
+    pub(crate) is_ended: bool,
 }
 
 /// Whether an empty line is in a gap between tokens.
@@ -49,7 +49,7 @@ impl Marks {
         definitions: 0,
         has_infer: false,
         paragraph: None,
-        goes_on: false,
+        continues: false,
         is_ended: false,
     };
 
@@ -82,7 +82,7 @@ impl Marks {
         } else if has_empty_line(gap) {
             self.paragraph = Some(first.offset);
         }
-        self.goes_on = self.has_infer;
+        self.continues = self.has_infer;
         self.statement = first.offset;
     }
 

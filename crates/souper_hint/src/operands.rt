@@ -8,7 +8,7 @@ use crate::scene::Scene;
 use crate::slips::meant_word;
 use crate::tokens::{is_name, is_operand, is_type, is_word};
 use crate::words::{
-    FLAGS, NO_VALUES, OTHER_TYPES, RIGHT_SIDES, has_word, is_beginning, is_right_side,
+    CONVERSIONS, FLAGS, NO_VALUES, OTHER_TYPES, RIGHT_SIDES, has_word, is_beginning, is_right_side,
     operand_count,
 };
 
@@ -29,7 +29,7 @@ fn count<'a>(scene: &Scene<'a>) -> Option<Hint<'a>>
     }
 }
 
-/// The same, if it has fewer.
+/// How many operands the statement of the error takes, if it has fewer.
 pub(crate) fn too_few<'a>(scene: &Scene<'a>) -> Option<Hint<'a>>
     ensures { IfSome result (SuggestsFrom scene.now.front.now) }
 {
@@ -56,7 +56,7 @@ pub(crate) fn too_many<'a>(scene: &Scene<'a>) -> Option<Hint<'a>>
     count(scene)
 }
 
-/// The same, if it has more, of which the last one was read as the name of a definition.
+/// How many operands the statement before the error takes, if it has more, of which the last one was read as the name of a definition.
 pub(crate) fn more_than_enough<'a>(scene: &Scene<'a>) -> Option<Hint<'a>>
     ensures { IfSome result (SuggestsFrom scene.now.front.now) }
 {
@@ -81,10 +81,11 @@ pub(crate) fn comma_after<'a>(scene: &Scene<'a>) -> Option<Hint<'a>>
 
 /// Where a type stands, at a type in the statement of the error.
 pub(crate) fn type_rule(scene: &Scene<'_>) -> Rule {
-    if has_word(OTHER_TYPES, scene.statement().word) {
-        Rule::OperandType
-    } else {
-        Rule::Type
+    match scene.statement().word {
+        "block" => Rule::Block,
+        word if has_word(CONVERSIONS, word) => Rule::ConversionType,
+        word if has_word(OTHER_TYPES, word) => Rule::OperandType,
+        _ => Rule::Type,
     }
 }
 
@@ -238,7 +239,7 @@ pub(crate) fn at_operand<'a>(scene: &Scene<'a>) -> Option<Hint<'a>>
     match token {
         _ if statement.has_attributes => None,
         _ if word == "block" => Some(Hint::Rule(Rule::Block)),
-        _ if word == "blockpc" && statement.operands == 1 && is_name(token) => {
+        _ if word == "blockpc" && statement.operands == 1 && (is_name(token) || is_word(token)) => {
             Some(Hint::Rule(Rule::Predecessor))
         }
         _ if scene.has_type(0) => Some(Hint::Rule(type_rule(scene))),

@@ -10,7 +10,8 @@ use crate::words::{RIGHT_SIDES, has_word, is_right_side, operand_count};
 use std::alloc::{AllocError, Global};
 
 // Words of other languages, which a slip would turn into ones of another meaning.
-const UNLIKE: &str = "addw subw mulw addn subn muln shln ash lsh set swap";
+const UNLIKE: &str =
+    "addw subw mulw addn subn muln shln shrnuw shrnsw shrnw lshlexact ash lsh set swap";
 
 // The instruction that another language's word stands for.
 fn other_name(word: &str) -> Option<&'static str> {
@@ -48,11 +49,15 @@ fn in_place_of_comparison<'a>(word: &str) -> Option<Hint<'a>>
     }
 }
 
-// What stands for LLVM's `icmp`, which has its comparison after a point or as the next token.
+// What stands for LLVM's `icmp`, which has its comparison after it, maybe after a point, or as the next token.
 fn in_place_of_icmp<'a>(word: &str, next: &str) -> Option<Hint<'a>>
     ensures { (text : List ℕ) → IfSome result (SuggestsFrom text) }
 {
-    match in_place_of_comparison(word.strip_prefix("icmp.").unwrap_or(next)) {
+    let rest = word.strip_prefix("icmp").unwrap_or("");
+    if let Some(hint) = in_place_of_comparison(rest.strip_prefix('.').unwrap_or(rest)) {
+        return Some(hint);
+    }
+    match in_place_of_comparison(next) {
         Some(hint) => Some(hint),
         None => Some(Hint::Rule(Rule::Comparison)),
     }
@@ -106,27 +111,85 @@ fn of_word<'a>(word: &str, next: &str) -> Option<Hint<'a>>
     }
 }
 
-// Whether the token is an operator of other languages, or the word of an instruction of two operands.
-fn is_operator(token: &str) -> bool {
-    let is_mark = match token.as_bytes().first() {
-        Some(byte) => matches!(
-            *byte,
-            b'+' | b'-' | b'*' | b'/' | b'&' | b'|' | b'^' | b'<' | b'>'
-        ),
-        None => false,
-    };
-    is_mark || token == "%" || is_right_side(token) && operand_count(token) == Some(2)
+// The hint of an operator of one character.
+fn of_mark<'a>(mark: &str) -> Option<Hint<'a>>
+    ensures { (text : List ℕ) → IfSome result (SuggestsFrom text) }
+{
+    match mark {
+        "+" => Some(Hint::Infix("add")),
+        "-" => Some(Hint::Infix("sub")),
+        "*" => Some(Hint::Infix("mul")),
+        "&" => Some(Hint::Infix("and")),
+        "|" => Some(Hint::Infix("or")),
+        "^" => Some(Hint::Infix("xor")),
+        "=" => Some(Hint::Infix("eq")),
+        "/" => Some(Hint::Either("udiv", "sdiv")),
+        "%" => Some(Hint::Either("urem", "srem")),
+        "<" => Some(Hint::Either("ult", "slt")),
+        ">" => Some(Hint::EitherSwapped("ult", "slt")),
+        _ => None,
+    }
+}
+
+// The hint of an operator of two characters, of which the second one is `=`.
+fn of_mark_with_equals<'a>(mark: &str) -> Option<Hint<'a>>
+    ensures { (text : List ℕ) → IfSome result (SuggestsFrom text) }
+{
+    match mark {
+        "=" => Some(Hint::Infix("eq")),
+        "!" => Some(Hint::Infix("ne")),
+        "<" => Some(Hint::Either("ule", "sle")),
+        ">" => Some(Hint::EitherSwapped("ule", "sle")),
+        _ => None,
+    }
+}
+
+// The hint of an operator of other languages, given as its first character with the token after that.
+fn of_operator<'a>(mark: &str, next: &str) -> Option<Hint<'a>>
+    ensures { (text : List ℕ) → IfSome result (SuggestsFrom text) }
+{
+    match next {
+        "=" => of_mark_with_equals(mark),
+        "<" if mark == "<" => Some(Hint::Infix("shl")),
+        ">" if mark == ">" => Some(Hint::Either("lshr", "ashr")),
+        "+" | "*" | "/" | "&" | "|" | "^" | "<" | ">" => None,
+        _ if mark == "=" && is_word(next) => None,
+        _ => of_mark(mark),
+    }
+}
+
+// The hint of an operator or of the word of an instruction between operands, given with the token after it.
+fn infix<'a>(token: &'a str, next: &str) -> Option<Hint<'a>>
+    ensures { (text : List ℕ) → IfSome result (SuggestsFrom text) }
+{
+    if is_right_side(token) && operand_count(token) == Some(2) {
+        return Some(Hint::Infix(token));
+    }
+    if token.starts_with('-') {
+        return of_operator("-", next);
+    }
+    of_operator(token, next)
 }
 
 // A hint at a name or a number in place of a right side.
 fn at_value<'a>(scene: &Scene<'a>) -> Option<Hint<'a>>
     ensures { IfSome result (SuggestsFrom scene.now.front.now) }
 {
-    match scene.next_token() {
-        Some(next) if scene.has_next_on_line() && is_operator(next) => {
-            Some(Hint::Rule(Rule::Infix))
-        }
-        _ => Some(Hint::Rule(Rule::Operand)),
+    if scene.has_next_on_line()
+        && let Some(hint) = infix(scene.token_at(1), scene.token_at(2))
+    {
+        return Some(hint);
+    }
+    Some(Hint::Rule(Rule::Operand))
+}
+
+// The token after the word, or after a flag that `icmp` has.
+fn token_after_flag<'a>(scene: &Scene<'a>) -> &'a str {
+    let next = scene.token_at(1);
+    if next.eq_ignore_ascii_case("samesign") {
+        scene.token_at(2)
+    } else {
+        next
     }
 }
 
@@ -153,6 +216,6 @@ pub(crate) fn at_right_side<'a>(
         return Ok(Some(Hint::Rule(Rule::Type)));
     }
     let word = token.to_ascii_lowercase(alloc)?;
-    let next = scene.next_token().unwrap_or("").to_ascii_lowercase(alloc)?;
+    let next = token_after_flag(scene).to_ascii_lowercase(alloc)?;
     Ok(of_word(word.as_str(), next.as_str()))
 }

@@ -64,8 +64,8 @@ impl<'a> Scene<'a> {
         Some(tokens_of(self.back).nth(1)?.text)
     }
 
-    // The token of this index, from the one at fault on; empty if there is none.
-    fn token_at(&self, index: usize) -> &'a str {
+    /// The token of this index, from the one at fault on; empty if there is none.
+    pub(crate) fn token_at(&self, index: usize) -> &'a str {
         match tokens_of(self.back).nth(index) {
             Some(token) => token.text,
             None => "",
@@ -101,6 +101,11 @@ impl<'a> Scene<'a> {
         self.front.get(self.marks.end..).unwrap_or("")
     }
 
+    /// Whether the token at fault follows the one before it directly.
+    pub(crate) fn is_joined(&self) -> bool {
+        self.gap().is_empty()
+    }
+
     /// Whether the token at fault is on another line than the one before it.
     pub(crate) fn is_on_new_line(&self) -> bool {
         self.gap().contains('\n')
@@ -128,6 +133,17 @@ impl<'a> Scene<'a> {
             }
         }
         None
+    }
+
+    /// Whether the first name that the item defines is at this offset.
+    pub(crate) fn is_first_definition(&self, offset: usize) -> bool {
+        let mut headings = Headings::new();
+        for token in tokens_from(self.front, self.marks.item) {
+            if let Some(name) = headings.take(token) {
+                return name.offset == offset;
+            }
+        }
+        false
     }
 
     /// The line on which the item defines the name first after the error.
@@ -213,7 +229,7 @@ impl<'a> Scene<'a> {
     /// The line that begins another item after the infer line, if that is clear.
     pub(crate) fn next_item(&self) -> Option<usize> {
         match self.paragraph(0) {
-            None if !self.marks.goes_on => Some(self.line),
+            None if !self.marks.continues => Some(self.line),
             line => line,
         }
     }

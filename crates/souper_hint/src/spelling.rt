@@ -1,11 +1,11 @@
 //! Hints about attributes, types and numbers.
-ghost use Rattle.std.specs.Prelude.{◌≤◌, IfSome};
+ghost use Rattle.std.specs.Prelude.{ℕ, List, ◌≤◌, IfSome};
 ghost use Rattle.souper_hint.specs.Hints.{SuggestsFrom};
 
 use crate::hints::{Hint, Rule};
 use crate::scene::Scene;
 use crate::slips::meant_word;
-use crate::tokens::{is_name_byte, is_number, is_type};
+use crate::tokens::{is_number, is_type, is_word, tokens_from};
 use crate::words::{ATTRIBUTES, ROOT_ATTRIBUTES, has_word};
 use souper_errors::Kind;
 
@@ -76,16 +76,18 @@ fn are_digits(digits: &str, base: u32) -> bool
     true
 }
 
-// The value of these digits, between which `_` may stand, if it is below 2^127 as each constant is.
-fn value_of(digits: &str, base: u32) -> Option<u128>
+// The value of the digits of both parts, between which `_` may stand, if it is below 2^127 as each constant is.
+fn value_of(parts: [&str; 2], base: u32) -> Option<u128>
     requires { 2 ≤ base × (base ≤ 16) }
 {
     let mut value = 0u128;
-    for digit in digits.chars() {
-        if let Some(digit) = digit.to_digit(base) {
-            value = value
-                .checked_mul(u128::from(base))?
-                .checked_add(u128::from(digit))?;
+    for part in parts {
+        for digit in part.chars() {
+            if let Some(digit) = digit.to_digit(base) {
+                value = value
+                    .checked_mul(u128::from(base))?
+                    .checked_add(u128::from(digit))?;
+            }
         }
     }
     if value > u128::MAX / 2 {
@@ -94,28 +96,56 @@ fn value_of(digits: &str, base: u32) -> Option<u128>
     Some(value)
 }
 
-/// A hint at the rest of a number of another base, which the parser reads as 0 and a word.
+// The hint of a number of the base, which has the digits of both parts.
+fn in_decimal<'a>(is_negative: bool, parts: [&str; 2], base: u32) -> Hint<'a>
+    requires { 2 ≤ base × (base ≤ 16) }
+    ensures { (text : List ℕ) → SuggestsFrom text result }
+{
+    match value_of(parts, base) {
+        Some(value) => Hint::Decimal { is_negative, value },
+        None => Hint::Rule(Rule::Decimal),
+    }
+}
+
+// The number that the token at fault follows directly, unless it is the bits of an attribute.
+fn number_before<'a>(scene: &Scene<'a>) -> Option<&'a str> {
+    if !scene.is_joined() {
+        return None;
+    }
+    let (mut attribute, mut mark, mut number) = ("", "", "");
+    for token in tokens_from(scene.front, scene.marks.statement) {
+        attribute = mark;
+        mark = number;
+        number = token.text;
+    }
+    if mark == "=" && matches!(attribute, "demandedBits" | "knownBits") {
+        return None;
+    }
+    Some(number)
+}
+
+/// A hint at the rest of a number of another base, which the parser reads as a number and a word.
 pub(crate) fn number_of_base<'a>(scene: &Scene<'a>) -> Option<Hint<'a>>
     ensures { IfSome result (SuggestsFrom scene.now.front.now) }
 {
-    let before = scene.front.strip_suffix('0')?;
-    let is_bits = before.ends_with("demandedBits=") || before.ends_with("knownBits=");
-    if is_bits || before.as_bytes().last().is_some_and(is_name_byte) {
+    let word = scene.token()?;
+    let number = number_before(scene)?;
+    let front = number.strip_prefix('-').unwrap_or(number);
+    let is_negative = number.starts_with('-');
+    if !is_word(word) || !is_number(front) {
         return None;
     }
-    let token = scene.token()?;
-    let base = base_of(token.chars().next()?)?;
-    let digits = token.get(1..)?;
-    if digits.is_empty() || !are_digits(digits, base) {
+    if let Some(digits) = word.strip_suffix('h').or(word.strip_suffix('H'))
+        && are_digits(digits, 16)
+    {
+        return Some(in_decimal(is_negative, [front, digits], 16));
+    }
+    let base = base_of(word.chars().next()?)?;
+    let digits = word.get(1..)?;
+    if front != "0" || digits.is_empty() || !are_digits(digits, base) {
         return None;
     }
-    match value_of(digits, base) {
-        Some(value) => Some(Hint::Decimal {
-            is_negative: before.ends_with('-'),
-            value,
-        }),
-        None => Some(Hint::Rule(Rule::Decimal)),
-    }
+    Some(in_decimal(is_negative, [front, digits], base))
 }
 
 /// A hint where a type should come.

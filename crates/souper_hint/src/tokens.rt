@@ -53,8 +53,8 @@ enum Class {
     Digit,
 }
 
-/// Whether a name may have the character.
-pub(crate) fn is_name_byte(byte: &u8) -> bool {
+// Whether a name may have the character.
+fn is_name_byte(byte: &u8) -> bool {
     byte.is_ascii_alphanumeric() || *byte == b'_' || *byte == b'.'
 }
 

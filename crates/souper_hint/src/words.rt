@@ -28,8 +28,11 @@ pub(crate) const RIGHT_SIDES: [&str; 6] = [
     COMPARISONS,
 ];
 
-/// The words of instructions that LLVM writes after a type that is not the result's.
-pub(crate) const OTHER_TYPES: &str = "eq ne ult slt ule sle zext sext trunc select extractvalue \
+/// The words of conversions, which LLVM writes with two types.
+pub(crate) const CONVERSIONS: &str = "zext sext trunc";
+
+/// The words of other instructions that LLVM writes before a type that is not the result's.
+pub(crate) const OTHER_TYPES: &str = "eq ne ult slt ule sle select extractvalue \
     sadd.with.overflow uadd.with.overflow ssub.with.overflow usub.with.overflow smul.with.overflow umul.with.overflow";
 
 /// Flags of LLVM that no instruction has.
