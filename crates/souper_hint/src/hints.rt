@@ -171,6 +171,15 @@ impl LastLine {
     }
 }
 
+const TYPE: &str =
+    "a type comes after the name that is defined or a constant: '%y:i32 = add %x, 1:i32'";
+
+const OPERAND_TYPE: &str =
+    "a type comes after the name that is defined or a constant: '%x:i32 = var', '1:i32'";
+
+const CONVERSION_TYPE: &str =
+    "a type comes after the name that is defined or a constant: '%x:i8 = var', '%y:i32 = zext %x'";
+
 impl Rule {
     fn text(self) -> &'static str {
         match self {
@@ -200,15 +209,9 @@ impl Rule {
     // Of a rule of types, attributes and characters.
     fn text_of_part(self) -> &'static str {
         match self {
-            Rule::Type => {
-                "a type comes after the name that is defined or a constant: '%y:i32 = add %x, 1:i32'"
-            }
-            Rule::OperandType => {
-                "a type comes after the name that is defined or a constant: '%x:i32 = var', '1:i32'"
-            }
-            Rule::ConversionType => {
-                "a type comes after the name that is defined or a constant: '%x:i8 = var', '%y:i32 = zext %x'"
-            }
+            Rule::Type => TYPE,
+            Rule::OperandType => OPERAND_TYPE,
+            Rule::ConversionType => CONVERSION_TYPE,
             Rule::Width => "the width of a type is 1 to 65535",
             Rule::Comment => "a comment begins with ';'",
             Rule::Range => {

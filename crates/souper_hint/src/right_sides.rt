@@ -144,18 +144,32 @@ fn of_mark_with_equals<'a>(mark: &str) -> Option<Hint<'a>>
     }
 }
 
+// The hint of an operator of one character, twice.
+fn of_mark_twice<'a>(mark: &str) -> Option<Hint<'a>>
+    ensures { (text : List ℕ) → IfSome result (SuggestsFrom text) }
+{
+    match mark {
+        "<" => Some(Hint::Infix("shl")),
+        ">" => Some(Hint::Either("lshr", "ashr")),
+        _ => None,
+    }
+}
+
 // The hint of an operator of other languages, given as its first character with the token after that.
 fn of_operator<'a>(mark: &str, next: &str) -> Option<Hint<'a>>
     ensures { (text : List ℕ) → IfSome result (SuggestsFrom text) }
 {
-    match next {
-        "=" => of_mark_with_equals(mark),
-        "<" if mark == "<" => Some(Hint::Infix("shl")),
-        ">" if mark == ">" => Some(Hint::Either("lshr", "ashr")),
-        "+" | "*" | "/" | "&" | "|" | "^" | "<" | ">" => None,
-        _ if mark == "=" && is_word(next) => None,
-        _ => of_mark(mark),
+    if next == "=" {
+        return of_mark_with_equals(mark);
     }
+    if next == mark {
+        return of_mark_twice(mark);
+    }
+    let is_other = matches!(next, "+" | "*" | "/" | "&" | "|" | "^" | "<" | ">");
+    if is_other || mark == "=" && is_word(next) {
+        return None;
+    }
+    of_mark(mark)
 }
 
 // The hint of an operator or of the word of an instruction between operands, given with the token after it.
