@@ -311,14 +311,14 @@ class Locations(unittest.TestCase):
 class Hints(unittest.TestCase):
     """What the writers of refused texts may have meant."""
 
-    TWICE = "%left = var\n%left = var\ninfer %left\n"
+    TWICE = "%x = var\n%left = var\n%left = var\ninfer %left\n"
 
     def test_each_call(self) -> None:
         for kind, text, hint in (
             (Kind.LHS, "%x = var\n%y = ad %x, 1\ninfer %y", "did you mean 'add'?"),
             (Kind.RHS, "%x = var\nreslt %x", "did you mean 'result'?"),
             (Kind.REP, "cnd 1 2", "did you mean 'cand'?"),
-            (Kind.LHS, self.TWICE, "'%left' is defined on line 1"),
+            (Kind.LHS, self.TWICE, "'%left' is defined on line 2"),
             (Kind.LHS, "%x = var\n", "the 'infer' line is missing at the end"),
             (Kind.LHS, "%x = var\ninfer %y", None),
         ):
@@ -344,7 +344,7 @@ class Hints(unittest.TestCase):
 
     def test_the_lines_of_a_stream(self) -> None:
         rest = "%y = ad 1, 2\ninfer %y\n%x = var\ninfer %y\n"
-        hints = ["'%left' is defined on line 4", "did you mean 'add'?", None]
+        hints = ["'%left' is defined on line 5", "did you mean 'add'?", None]
         for by_segments in (False, True):
             found = self.of_stream(f"%x = var\ninfer %x\n\n{self.TWICE}{rest}", by_segments)
             self.assertEqual(found, hints)

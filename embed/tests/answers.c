@@ -274,7 +274,7 @@ static void locations(void) {
 
 /* The hints of rejected texts, by buffers of every length. */
 static void hints(void) {
-    static const char twice[] = "%left = var\n%left = var\ninfer %left\n";
+    static const char twice[] = "%x = var\n%left = var\n%left = var\ninfer %left\n";
     static const struct {
         uint32_t kind;
         size_t lines;
@@ -285,8 +285,8 @@ static void hints(void) {
         {SOUPER_REP, 0, "cnd 1 2", "did you mean 'cand'?"},
         {SOUPER_LHS, 0, "%x = var\n", "the 'infer' line is missing at the end"},
         {SOUPER_LHS, 0, "%x = var\ninfer %y", ""},
-        {SOUPER_LHS, 0, twice, "'%left' is defined on line 1"},
-        {SOUPER_LHS, 3, twice, "'%left' is defined on line 4"},
+        {SOUPER_LHS, 0, twice, "'%left' is defined on line 2"},
+        {SOUPER_LHS, 3, twice, "'%left' is defined on line 5"},
     };
     for (size_t i = 0; i < sizeof rows / sizeof *rows; i++) {
         size_t length = strlen(rows[i].hint);

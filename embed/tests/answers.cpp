@@ -189,7 +189,7 @@ void hinted(const char *text, const char *hint) {
 
 void hints() {
     hinted("%x = var\n%y = ad %x, 1\ninfer %y", "did you mean 'add'?");
-    hinted("%left = var\n%left = var\ninfer %left\n", "'%left' is defined on line 1");
+    hinted("%x = var\n%left = var\n%left = var\ninfer %left\n", "'%left' is defined on line 2");
     hinted("%x = var\n", "the 'infer' line is missing at the end");
     hinted("%x = var\ninfer %y", "");
     expect(hint_of([] { souper::find("cnd 1 2", ""); }) == "did you mean 'cand'?", "the hint of a store", nullptr);

@@ -329,10 +329,10 @@ void hints() {
         reader from(kind::lhs, by_segments);
         std::optional<souper::item> one;
         souper::error e;
-        from.push("%x = var\ninfer %x\n\n%left = var\n%left = var\ninfer %left\n%y = ad 1, 2\n%left = var\n%left = var\ninfer %left\n");
+        from.push("%x = var\ninfer %x\n\n%x = var\n%left = var\n%left = var\ninfer %left\n%y = ad 1, 2\n%left = var\n%left = var\ninfer %left\n");
         from.finish();
         expect(from.try_next(one, e) && one && e.hint.empty(), "an item before hints", nullptr);
-        expect(!from.try_next(one, e) && e.hint == "'%left' is defined on line 4", "the line of a hint", nullptr);
+        expect(!from.try_next(one, e) && e.hint == "'%left' is defined on line 5", "the line of a hint", nullptr);
         expect(!from.try_next(one, e) && e.hint == "did you mean 'add'?", "a hint without a line", nullptr);
         expect(from.try_next(one, e) && !one && e.hint.empty(), "the end after hints", nullptr);
     }

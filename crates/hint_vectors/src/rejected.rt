@@ -1870,6 +1870,12 @@ infer %y
 infer %y
 ---
 
+=== lhs word like a shift, ashlexact
+%x = var
+%y = ashlexact %x, 1
+infer %y
+---
+
 === lhs true in place of the index
 %b = block 2
 %c = var

@@ -11,7 +11,7 @@ use std::alloc::{AllocError, Global};
 
 // Words of other languages, which a slip would turn into ones of another meaning.
 const UNLIKE: &str =
-    "addw subw mulw addn subn muln shln shrnuw shrnsw shrnw lshlexact ash lsh set swap";
+    "addw subw mulw addn subn muln shln shrnuw shrnsw shrnw lshlexact ashlexact ash lsh set swap";
 
 // The instruction that another language's word stands for.
 fn other_name(word: &str) -> Option<&'static str> {

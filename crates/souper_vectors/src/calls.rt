@@ -71,16 +71,16 @@ fn code_is_written(rt: HostRuntime) {
 #[test]
 fn hint_is_written(rt: HostRuntime) {
     let mut out = [b'.'; ROOM];
-    let twice = b"%left = var\n%left = var\ninfer %left";
+    let twice = b"%x = var\n%left = var\n%left = var\ninfer %left";
     let hinted = souper_hint(rt.alloc(), 0, 3, twice, &mut out);
     equal(&rt, hinted, plain(1, 28));
-    equal(&rt, out.get(..30), Some(b"'%left' is defined on line 4.."));
+    equal(&rt, out.get(..30), Some(b"'%left' is defined on line 5.."));
 }
 
 #[test]
 fn hint_of_a_short_buffer_has_its_length(rt: HostRuntime) {
     let mut out = [b'.'; 27];
-    let twice = b"%left = var\n%left = var\ninfer %left";
+    let twice = b"%x = var\n%left = var\n%left = var\ninfer %left";
     let short = souper_hint(rt.alloc(), 0, 0, twice, &mut out);
     equal(&rt, short, plain(5, 28));
 }

@@ -139,8 +139,8 @@ fn a_text_may_have_a_hint() {
         Some("did you mean 'result'?"),
     );
     is_hinted(Kind::Rep, "cnd 1 2", Some("did you mean 'cand'?"));
-    let text = "%left = var\n%left = var\ninfer %left\n";
-    is_hinted(Kind::Lhs, text, Some("'%left' is defined on line 1"));
+    let text = "%x = var\n%left = var\n%left = var\ninfer %left\n";
+    is_hinted(Kind::Lhs, text, Some("'%left' is defined on line 2"));
     let text = "%x = var\n";
     is_hinted(
         Kind::Lhs,

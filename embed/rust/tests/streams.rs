@@ -236,13 +236,13 @@ fn refusals_are_those_of_the_whole_text() {
 // A hint names lines of the stream.
 #[test]
 fn hints() {
-    let text = "%x = var\ninfer %x\n\n%left = var\n%left = var\ninfer %left\n%y = ad 1, 2\ninfer %y\n%x = var\ninfer %y\n";
+    let text = "%x = var\ninfer %x\n\n%x = var\n%left = var\n%left = var\ninfer %left\n%y = ad 1, 2\ninfer %y\n%x = var\ninfer %y\n";
     for mut reader in [Reader::<LeftHandSide>::new(), Reader::by_segments()] {
         reader.push(text.as_bytes()).unwrap();
         reader.finish();
         assert!(matches!(reader.next(), Some(Ok(_))));
         for hint in [
-            Some("'%left' is defined on line 4"),
+            Some("'%left' is defined on line 5"),
             Some("did you mean 'add'?"),
             None,
         ] {

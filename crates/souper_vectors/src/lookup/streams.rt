@@ -165,7 +165,7 @@ store:5:1: cannot redefine '%y'
      |
    5 | %y = var
      | ^
-hint: '%y' is defined on line 4
+hint: '%y' is defined on line 4; if line 5 begins another item, the 'infer' or 'cand' line is missing before it
 ";
     let text = str::from_utf8(&err).expect(&rt, "UTF-8");
     assert_eq!(rt; (status, text), (1, want));
