@@ -21,6 +21,7 @@ mod PlaceEquations
 mod FirstConflicts
 mod Sides
 mod Marks
+mod NeededMarks
 mod ClassSteps
 mod Starting
 mod LineTies

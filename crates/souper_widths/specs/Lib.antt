@@ -14,4 +14,5 @@ pub mod Examples
 pub mod Forest
 pub mod Ties
 pub mod Nodes
+pub mod Marking
 pub mod Told

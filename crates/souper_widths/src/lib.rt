@@ -13,6 +13,7 @@ mod last_lines;
 pub mod laws;
 mod limit_flaws;
 mod limits;
+mod needed;
 mod places;
 pub mod rows;
 mod shape;
@@ -24,4 +25,4 @@ mod typed;
 
 pub use flaws::{WidthFlaw, WidthReason, WidthsError};
 pub use item_widths::Widths;
-pub use typed::widths;
+pub use typed::{well_formed_widths, widths};

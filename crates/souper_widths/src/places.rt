@@ -1,36 +1,19 @@
-//! Marks on the needed statements, and the first flaw of the shape.
+//! The first flaw of the shape.
 
-ghost use Rattle.std.specs.Prelude.{◌≡◌, ◌<◌, ℕ, map, length, slice_get, IsTrue, IfOk, MatchOption};
+ghost use Rattle.std.specs.Prelude.{ℕ, map, slice_get, IsTrue, MatchOption};
 ghost use Rattle.std.specs.List.{AllByRecursion};
 ghost use Rattle.souper_graph.specs.View.{view_statement};
 ghost use Rattle.souper_graph.specs.PartsView.{view_parts};
-ghost use Rattle.souper_graph.specs.Uses.{Has, NeededIn};
+ghost use Rattle.souper_graph.specs.Uses.{NeededIn};
 ghost use Rattle.souper_graph.specs.declared.ast.flaws.FlawLocation.TheVariants.{Statement as AtStatement};
 ghost use Rattle.souper_widths.specs.Shape.{ShapedOptional, ShapedAt, shape_reasons, HasShape};
 ghost use Rattle.souper_widths.specs.Flaws.{IsFirstFailing, IsShapeFlaw};
 ghost use Rattle.souper_widths.specs.Lines.{LinesShaped, IsShapeFlawOfLines};
-ghost use Rattle.souper_widths.specs.Nodes.{HaveMarks, MarkNeeded};
+ghost use Rattle.souper_widths.specs.Nodes.{MarkNeeded};
 
 use crate::flaws::{WidthFlaw, WidthReason};
 use crate::shape::{line_shape_reason, shape_reason};
 use souper_graph::ast::{Arena, Ending, FlawLocation, Id, Operand, Parts, Statement};
-use std::alloc::{AllocError, Global};
-
-// Marks on the statements at these positions.
-pub(crate) fn marks_of(
-    alloc: Global,
-    ids: &[Id<Statement>],
-    count: usize,
-) -> Result<Vec<bool>, AllocError>
-    requires { (i : ℕ) → Has ids.now i → i < count }
-    ensures { IfOk result (λ marks. HaveMarks marks.items ids.now count) }
-{
-    let mut marks = vec![in alloc; false; count]?;
-    for id in ids {
-        marks[id.index()] = true;
-    }
-    Ok(marks)
-}
 
 // The first reason of the statement at a position, if it is needed.
 fn shape_at(statements: &Arena<Statement>, position: usize, is_needed: bool) -> Option<WidthReason>

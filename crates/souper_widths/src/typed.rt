@@ -1,8 +1,7 @@
 //! The widths of an item, or its first flaw.
 
-ghost use Rattle.std.specs.Prelude.{◌<◌, ◌↔◌, ℕ, length, IfOk, IfErr};
+ghost use Rattle.std.specs.Prelude.{IfOk, IfErr};
 ghost use Rattle.souper_graph.specs.PartsView.{view_parts};
-ghost use Rattle.souper_graph.specs.Uses.{Has, NeededIn};
 ghost use Rattle.souper_graph.specs.WellFormed.{WellFormed};
 ghost use Rattle.souper_widths.specs.View.{view_widths};
 ghost use Rattle.souper_widths.specs.Typed.{Typed};
@@ -12,10 +11,11 @@ ghost use Rattle.souper_widths.specs.Nodes.{MarkNeeded};
 use crate::flaws::{WidthFlaw, WidthReason, WidthsError};
 use crate::item_widths::{Widths, widths_by};
 use crate::limit_flaws::limit_flaw;
-use crate::places::{marks_of, shape_flaw};
+use crate::needed::needed_marks;
+use crate::places::shape_flaw;
 use crate::solution::node_widths;
 use crate::told::first_untold;
-use souper_graph::ast::{Id, Item, Parts, Statement};
+use souper_graph::ast::{Item, Parts};
 
 // The widths of a well-formed item, with marks on its needed statements.
 fn marked_widths(parts: &Parts<'_>, marks: &[bool]) -> Result<Widths, WidthsError>
@@ -43,17 +43,24 @@ fn marked_widths(parts: &Parts<'_>, marks: &[bool]) -> Result<Widths, WidthsErro
     }
 }
 
-// The widths of a well-formed item that needs the statements at these positions.
-fn needed_widths(parts: &Parts<'_>, ids: &[Id<Statement>]) -> Result<Widths, WidthsError>
-    requires well_formed { WellFormed (view_parts parts.now) }
-    requires inside { (i : ℕ) → Has ids.now i → i < length (view_parts parts.now).statements }
-    requires exact { (i : ℕ) → Has ids.now i ↔ NeededIn (view_parts parts.now) i }
+fn needed_widths(parts: &Parts<'_>) -> Result<Widths, WidthsError>
+    requires { WellFormed (view_parts parts.now) }
     ensures typed { IfOk result (λ widths. Typed (view_parts parts.now) (view_widths widths)) }
     ensures flawed { IfErr result (λ error. IsWidthsError (view_parts parts.now) error) }
 {
-    let alloc = parts.statements.allocator();
-    let marks = marks_of(alloc, ids, parts.statements.len())?;
+    let marks = needed_marks(parts)?;
     marked_widths(parts, &marks)
+}
+
+/// The widths of an item that is known to be well formed, as [`widths`] returns them.
+///
+/// Errors: `Flawed` with the first flaw of an item that has no widths; `OutOfMemory`.
+pub fn well_formed_widths<T: Item>(item: &T) -> Result<Widths, WidthsError>
+    requires { WellFormed (T.view item.now) }
+    ensures typed { IfOk result (λ widths. Typed (T.view item.now) (view_widths widths)) }
+    ensures flawed { IfErr result (λ error. IsWidthsError (T.view item.now) error) }
+{
+    needed_widths(&item.parts())
 }
 
 /// The widths of an item: the one solution of the equations between them, if its shape and its limits allow one.
@@ -67,10 +74,6 @@ pub fn widths<T: Item>(item: &T) -> Result<Widths, WidthsError>
 {
     match item.flaw()? {
         Some(flaw) => Err(WidthsError::NotWellFormed(flaw)),
-        None => match item.print_order() {
-            Ok(order) => needed_widths(&item.parts(), &order.ids),
-            // A well-formed item has no bad id, so the error is out of memory.
-            Err(_) => Err(WidthsError::OutOfMemory),
-        },
+        None => well_formed_widths(item),
     }
 }
