@@ -14,4 +14,4 @@ mod writing;
 
 pub use form::Form;
 pub use items::TypedItem;
-pub use writing::{complete, with_widths, write_widths};
+pub use writing::{complete, with_widths, write_well_formed_widths, write_widths};

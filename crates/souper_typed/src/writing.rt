@@ -1,6 +1,7 @@
 //! Items with all widths written.
 
 ghost use Rattle.std.specs.Prelude.{◌≡◌, IfOk, IfErr, OnErr};
+ghost use Rattle.souper_graph.specs.WellFormed.{WellFormed};
 ghost use Rattle.souper_widths.specs.Maps.{WidthMap};
 ghost use Rattle.souper_widths.specs.View.{view_widths};
 ghost use Rattle.souper_widths.specs.Errors.{IsWidthsError};
@@ -9,7 +10,7 @@ ghost use Rattle.souper_typed.specs.Written.{IsWritten};
 
 use crate::form::Form;
 use crate::items::TypedItem;
-use souper_widths::{Widths, WidthsError, widths};
+use souper_widths::{Widths, WidthsError, well_formed_widths, widths};
 
 /// Writes the widths of an item into it, and returns them. After an error the item is as it was.
 ///
@@ -23,6 +24,26 @@ pub fn write_widths<T: TypedItem>(item: &mut T, form: Form) -> Result<Widths, Wi
     ensures kept { OnErr result (T.view item.new ≡ T.view item.old) }
 {
     let found = match widths(item) {
+        Ok(found) => found,
+        Err(error) => return Err(error),
+    };
+    item.put_widths(form, &found);
+    Ok(found)
+}
+
+/// Writes the widths of an item that is known to be well formed, as [`write_widths`] does.
+///
+/// Errors: those of [`well_formed_widths`].
+pub fn write_well_formed_widths<T: TypedItem>(
+    item: &mut T,
+    form: Form,
+) -> Result<Widths, WidthsError>
+    requires { WellFormed (T.view item.old) }
+    ensures written { IfOk result (λ widths. IsWritten form (view_widths widths) (T.view item.old) (T.view item.new)) }
+    ensures flawed { IfErr result (λ error. IsWidthsError (T.view item.old) error) }
+    ensures kept { OnErr result (T.view item.new ≡ T.view item.old) }
+{
+    let found = match well_formed_widths(item) {
         Ok(found) => found,
         Err(error) => return Err(error),
     };
