@@ -13,6 +13,7 @@ use souper_graph::ast::{AssignmentRhs, Id, Operand, Statement, Type};
 use std::alloc::AllocError;
 
 // Appends the tie, but none if a side is 0, which is the width of no node.
+#[inline(always)]
 fn push_tie(ties: &mut Vec<Tie>, left: Side, right: Side, more: u16) -> Result<(), AllocError>
     ensures { OnOk result (ties.new.items ≡ ties.old.items ++ tie_between left right more) }
 {
@@ -32,6 +33,7 @@ fn side_is_zero(side: Side) -> bool
 }
 
 // Appends the tie of an operand with a side.
+#[inline(always)]
 fn push_operand_tie(
     ties: &mut Vec<Tie>,
     operand: Operand,
@@ -63,6 +65,7 @@ fn push_operand_tie(
 }
 
 // Appends the ties of operands with a side.
+#[inline(always)]
 pub(crate) fn push_operand_ties(
     ties: &mut Vec<Tie>,
     operands: &[Operand],
@@ -81,6 +84,7 @@ pub(crate) fn push_operand_ties(
 }
 
 // Appends the ties of a row at a position. Its operands' ties are appended elsewhere.
+#[inline(always)]
 fn push_row_ties(ties: &mut Vec<Tie>, position: usize, row: Row) -> Result<(), AllocError>
     requires fits { 2 * position + 1 < 2 ^ 64 }
     ensures { OnOk result (ties.new.items ≡ ties.old.items ++ flat_map (ties_of 0 row) (row_equations position row)) }
@@ -105,6 +109,7 @@ fn result_is_wider(row: Row) -> u16
 }
 
 // Appends the tie of a written type.
+#[inline(always)]
 fn push_type_tie(
     ties: &mut Vec<Tie>,
     position: usize,
@@ -125,6 +130,7 @@ fn push_type_tie(
 }
 
 // Appends the ties of the operands of a row.
+#[inline(always)]
 fn push_row_operands(
     ties: &mut Vec<Tie>,
     position: usize,
@@ -155,6 +161,7 @@ fn push_row_operands(
     }
 }
 
+#[inline(always)]
 fn push_statement_operands(
     ties: &mut Vec<Tie>,
     position: usize,

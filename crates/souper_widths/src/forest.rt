@@ -7,6 +7,7 @@ ghost use Rattle.souper_widths.specs.Forest.{IsForest, Follows, SameTrees, AreCl
 use crate::ties::Side;
 
 // The root of the node's tree. Each node on the way gets its grandparent as its parent, so that later ways are shorter.
+#[inline(always)]
 fn root_of(parents: &mut [usize], node: usize) -> usize
     requires forest { IsForest parents.old }
     requires within { node < length parents.old }
@@ -26,6 +27,7 @@ fn root_of(parents: &mut [usize], node: usize) -> usize
 }
 
 // Puts one root below another, which gets its number.
+#[inline(always)]
 fn put_below(parents: &mut [usize], numbers: &mut [u16], high: usize, low: usize)
     requires classes { AreClasses parents.old numbers.old }
     requires within { high < length parents.old }
@@ -44,6 +46,7 @@ fn put_below(parents: &mut [usize], numbers: &mut [u16], high: usize, low: usize
 }
 
 // Joins the classes of two nodes. The error is the two widths, if they differ.
+#[inline(always)]
 fn join(parents: &mut [usize], numbers: &mut [u16], x: usize, y: usize) -> Result<(), (u16, u16)>
     requires classes { AreClasses parents.old numbers.old }
     requires x_within { x < length parents.old }
@@ -69,6 +72,7 @@ fn join(parents: &mut [usize], numbers: &mut [u16], x: usize, y: usize) -> Resul
 }
 
 // Gives the class of a node its width. The error is its width, if that is another one.
+#[inline(always)]
 fn fix(parents: &mut [usize], numbers: &mut [u16], node: usize, number: u16) -> Result<(), u16>
     requires classes { AreClasses parents.old numbers.old }
     requires within { node < length parents.old }
@@ -88,6 +92,7 @@ fn fix(parents: &mut [usize], numbers: &mut [u16], node: usize, number: u16) -> 
 }
 
 // Gives both sides one width. The error is their widths, if these differ.
+#[inline(always)]
 pub(crate) fn tie(
     parents: &mut [usize],
     numbers: &mut [u16],

@@ -89,8 +89,8 @@ pub(crate) fn widths_by(
     requires told { AllTold (view_parts parts.now) nodes.now }
     ensures { IfOk result (λ widths. view_widths widths ≡ map_told (view_parts parts.now).statements marks.now nodes.now) }
 {
-    let mut results = Vec::new(alloc);
-    let mut operands = Vec::new(alloc);
+    let mut results = Vec::with_capacity(alloc, marks.len())?;
+    let mut operands = Vec::with_capacity(alloc, marks.len())?;
     for position in 0..marks.len() {
         let (own, used) = widths_at(parts.statements, position, marks[position], nodes);
         results.push(own)?;

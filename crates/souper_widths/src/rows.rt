@@ -47,6 +47,7 @@ pub enum Row {
 }
 
 // The row of `extractvalue` with this index.
+#[inline(always)]
 fn part_row(index: Operand) -> Row
     ensures { result ≡ part_at index }
 {
@@ -64,6 +65,7 @@ fn part_row(index: Operand) -> Row
     }
 }
 
+#[inline(always)]
 fn instruction_row_of(instruction: &Instruction) -> Row
     ensures { result ≡ instruction_row instruction.now }
 {
@@ -129,6 +131,7 @@ fn instruction_row_of(instruction: &Instruction) -> Row
     }
 }
 
+#[inline(always)]
 pub(crate) fn rhs_row_of(rhs: &AssignmentRhs) -> Row
     ensures { result ≡ rhs_row (view_rhs rhs.now) }
 {
@@ -142,6 +145,7 @@ pub(crate) fn rhs_row_of(rhs: &AssignmentRhs) -> Row
     }
 }
 
+#[inline(always)]
 pub(crate) fn statement_row(statement: &Statement) -> Row
     ensures { result ≡ row_of (view_statement statement.now) }
 {

@@ -41,7 +41,7 @@ pub(crate) fn widths_of(
     requires { AreClasses parents.now numbers.now }
     ensures { IfOk result (λ widths. TellsWidths parents.now numbers.now widths.items) }
 {
-    let mut widths = Vec::new(alloc);
+    let mut widths = Vec::with_capacity(alloc, parents.len())?;
     for node in 0..parents.len() {
         let parent = parents[node];
         let width = if parent == node {
@@ -58,7 +58,7 @@ pub(crate) fn widths_of(
 pub(crate) fn first_parents(alloc: Global, count: usize) -> Result<Vec<usize>, AllocError>
     ensures { IfOk result (λ parents. parents.items ≡ listed (λ i. i) count) }
 {
-    let mut parents = Vec::new(alloc);
+    let mut parents = Vec::with_capacity(alloc, count)?;
     for node in 0..count {
         parents.push(node)?;
     }
