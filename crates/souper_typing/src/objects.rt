@@ -22,7 +22,7 @@ use souper_records::rejected::Rejected;
 use souper_records::rows::{RowSink, Rows};
 use souper_records::stop::Stop;
 use souper_stream::{ChunkSink, Start, StreamItem};
-use souper_typed::{Form, TypedItem, write_widths};
+use souper_typed::{Form, TypedItem, write_well_formed_widths};
 use souper_untyped::FlawText;
 use souper_watched::Watched;
 use souper_widths::WidthsError;
@@ -181,7 +181,7 @@ impl<T: WholeItem + TypedItem + Drop> Rows<T, TypedRow> for TypedObjects {
     }
 
     fn make(&self, alloc: Global, item: &mut T, text: &mut String) -> Result<TypedRow, AllocError> {
-        match write_widths(item, self.form) {
+        match write_well_formed_widths(item, self.form) {
             Ok(widths) => {
                 text.clear();
                 append_last_text(self.rename, item, text)?;

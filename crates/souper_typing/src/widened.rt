@@ -9,7 +9,7 @@ use souper_records::parts::{Part, PartSink};
 use souper_records::rejected::Rejected;
 use souper_records::stop::Stop;
 use souper_stream::{ChunkSink, StreamItem};
-use souper_typed::{Form, TypedItem, write_widths};
+use souper_typed::{Form, TypedItem, write_well_formed_widths};
 use souper_untyped::FlawText;
 use souper_watched::Watched;
 use souper_widths::WidthsError;
@@ -66,7 +66,7 @@ impl<T: WholeItem + TypedItem + Drop, S: Sink<T>> Sink<T> for Widened<S> {
         if self.any && !self.recover {
             return Ok(item.take_statements());
         }
-        match write_widths(&mut item, self.form) {
+        match write_well_formed_widths(&mut item, self.form) {
             Ok(_) => {
                 self.flaws.push(None)?;
                 Sink::<T>::take(&mut self.inner, item)

@@ -10,7 +10,7 @@ append_last_text-requires g c = c.in-Ok.ensures.written.well_formed
 
 pub returns-in_ok-from_str-in-Ok : goal.returns-in_ok-from_str-in-Ok
 returns-in_ok-from_str-in-Ok g c =
-    let b = g.T.Item.view c.write_widths.new.item in
+    let b = g.T.Item.view c.write_well_formed_widths.new.item in
     let said : string_bytes c.in_ok-from_str-in-Ok.field-0 ≡ text_by c.args.self.now.rename b =
     c.in_ok-from_str-in-Ok.ensures.ok ∙ c.as_str.ensures.value ∙ c.in_ok-append_last_text-in-Ok.ensures.text ∙ (λ i. c.clear.ensures.bytes i ++ text_by c.args.self.now.rename b) in
     (view_widths c.in-Ok.widths, b, c.in-Ok.ensures.written, said, refl)

@@ -12,7 +12,7 @@ returns-then-not-self g c = λ first items held. held_skipped g.S.Sink.holds fir
 pub returns-in-Ok : goal.returns-in-Ok
 returns-in-Ok g c =
     let goes : (c.args.self.now.any ≡ false) ⊎ (c.args.self.now.recover ≡ true) = elim c.else-self.branch [ else-self-via-then-self+else-not-self w ↦ inr w.if-not-self.false | else-self-via-else-self w ↦ inl w.if-self.false ] in
-    on_ok_weaker c.take.result (λ more first items held. held_typed g.S.Sink.holds first c.args.self.now _ items (g.T.Item.view c.args.item) (g.T.Item.view c.write_widths.new.item) goes refl refl refl c.in_ok-push-in-Ok.ensures.items (_, c.in-Ok.ensures.written) (λ list h. more first.inner list h) held) c.take.ensures
+    on_ok_weaker c.take.result (λ more first items held. held_typed g.S.Sink.holds first c.args.self.now _ items (g.T.Item.view c.args.item) (g.T.Item.view c.write_well_formed_widths.new.item) goes refl refl refl c.in_ok-push-in-Ok.ensures.items (_, c.in-Ok.ensures.written) (λ list h. more first.inner list h) held) c.take.ensures
 
 pub returns-in-Err-Flawed : goal.returns-in-Err-Flawed
 returns-in-Err-Flawed g c =
