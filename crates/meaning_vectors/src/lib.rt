@@ -11,3 +11,5 @@ mod evaluated;
 mod exhausted;
 #[cfg(test)]
 mod refused;
+#[cfg(test)]
+mod searched;

@@ -114,7 +114,7 @@ module _ (mode : Mode) (w : ℕ) (x : World) (p : ℕ) where
   rhs_is_given d reserved_const l h = subst (λ (o : Outcome). IsNumberBelow (2 ^ w) o) (sym h) (number_is_below w d l)
   rhs_is_given d (instruction i) l h = instruction_is_given d i l h
 
-  statement_is_given : (d : ℕ) (s : Option PlainStatement) → d < statement_count mode w s → HasStatementDigit w x p d s → GivesStatement mode w x p s
+  pub statement_is_given : (d : ℕ) (s : Option PlainStatement) → d < statement_count mode w s → HasStatementDigit w x p d s → GivesStatement mode w x p s
   statement_is_given d None l h = tt
   statement_is_given d (Some (assigned a)) l h = rhs_is_given d a.value l h
   statement_is_given d (Some (condition c)) l h = tt

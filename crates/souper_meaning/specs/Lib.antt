@@ -4,9 +4,13 @@ pub mod Evaluations
 pub mod Examples
 pub mod Exhausted
 pub mod Facts
+pub mod Hints
 pub mod Instructions
 pub mod Numbering
+pub mod Pins
 pub mod Plans
+pub mod Refutations
+pub mod Sampling
 pub mod Sound
 pub mod Statements
 pub mod Stepping

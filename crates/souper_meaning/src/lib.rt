@@ -2,9 +2,12 @@
 #![tactic(auto)]
 
 mod conditions;
+mod drawing;
+mod edges;
 mod evaluation;
 mod exhausting;
 mod facts;
+mod generator;
 mod giving;
 mod instructions;
 mod item_outcomes;
@@ -12,10 +15,14 @@ pub mod laws;
 mod numbering;
 mod odometer;
 mod operands;
+mod pins;
 mod planning;
 mod plans;
 mod refining;
 mod refusals;
+mod refuting;
+mod sampling;
+mod spans;
 mod statements;
 mod stepping;
 mod trials;
@@ -31,4 +38,5 @@ pub use item_outcomes::{EvalError, Evaluation, eval};
 pub use planning::plan;
 pub use plans::{Plan, PlanError};
 pub use refining::{are_one_number, refines};
+pub use refuting::{Refutation, refute};
 pub use worlds::{Mode, World};

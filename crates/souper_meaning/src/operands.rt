@@ -34,7 +34,7 @@ pub(crate) fn operand_outcome_of(done: &[Outcome], width: u32, operand: Operand)
 }
 
 /// The operand at an index, if there is one.
-fn operand_at(operands: &[Operand], index: usize) -> Option<Operand>
+pub(crate) fn operand_at(operands: &[Operand], index: usize) -> Option<Operand>
     ensures { result ≡ slice_get operands.now index }
 {
     match operands.get(index) {

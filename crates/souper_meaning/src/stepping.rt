@@ -41,7 +41,7 @@ fn numbered_input_of(number: u128, width: u32) -> Outcome
 }
 
 /// Gives an input its value.
-fn put_value(world: &mut World, position: usize, value: Outcome)
+pub(crate) fn put_value(world: &mut World, position: usize, value: Outcome)
     requires { position < length world.old.values.items }
     ensures values { world.new.values.items ≡ slice_set world.old.values.items position value }
     ensures predecessors { world.new.predecessors.items ≡ world.old.predecessors.items }
@@ -51,7 +51,7 @@ fn put_value(world: &mut World, position: usize, value: Outcome)
 }
 
 /// Gives a block the predecessor by which it is reached.
-fn put_predecessor(world: &mut World, position: usize, predecessor: u32)
+pub(crate) fn put_predecessor(world: &mut World, position: usize, predecessor: u32)
     requires { position < length world.old.predecessors.items }
     ensures values { world.new.values.items ≡ world.old.values.items }
     ensures predecessors { world.new.predecessors.items ≡ slice_set world.old.predecessors.items position predecessor }
@@ -61,7 +61,7 @@ fn put_predecessor(world: &mut World, position: usize, predecessor: u32)
 }
 
 /// Gives a freeze its choice.
-fn put_choice(world: &mut World, position: usize, choice: u128)
+pub(crate) fn put_choice(world: &mut World, position: usize, choice: u128)
     requires { position < length world.old.choices.items }
     ensures values { world.new.values.items ≡ world.old.values.items }
     ensures predecessors { world.new.predecessors.items ≡ world.old.predecessors.items }
