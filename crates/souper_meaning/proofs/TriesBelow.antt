@@ -4,7 +4,7 @@ use Rattle.std.specs.Prelude.{IsTrue}
 use Rattle.std.specs.Int.{from_bool}
 use Rattle.std.proofs.lemmas.Bool.{false≢true}
 use Rattle.std.proofs.lemmas.Bool.Decides.{eqb_tells}
-use Rattle.souper_graph.specs.Values.{PlainAssignment, PlainStatement, assigned, Item}
+use Rattle.souper_graph.specs.Values.{PlainStatement, Item}
 use Rattle.souper_graph.specs.Uses.{NeededIn}
 use Rattle.souper_graph.specs.WellFormed.{WellFormed}
 use Rattle.souper_graph.proofs.Judging.Needed.{well_formed_inside}
@@ -12,10 +12,10 @@ use Rattle.souper_widths.specs.Maps.{WidthMap, result_width}
 use Rattle.souper_widths.specs.Nodes.{MarkNeeded}
 use Rattle.souper_meaning.specs.Worlds.{World, Mode, IsWorld}
 use Rattle.souper_meaning.specs.Sound.{Meets, Vacuous}
-use Rattle.souper_meaning.specs.Numbering.{count_at, world_count, HasRhsDigit, HasStatementDigit, HasDigitAt, HasDigits}
+use Rattle.souper_meaning.specs.Numbering.{count_at, world_count, HasStatementDigit, HasDigitAt, HasDigits}
 use Rattle.souper_meaning.specs.Exhausted.{RefinesIn}
 use Rattle.souper_meaning.specs.Pins.{numbers_at}
-use Rattle.souper_meaning.specs.Sampling.{output, edges_of, rhs_at, statement_at, digit_at, IsTry}
+use Rattle.souper_meaning.specs.Sampling.{output, edges_of, statement_at, digit_at, IsTry}
 use Rattle.souper_meaning.specs.declared.spans.Span.{Span}
 use Rattle.souper_meaning.specs.Refutations.{AllTriesRefine, MeetsAtTry, HoldsTimes}
 use Rattle.souper_meaning.proofs.Agreeing.{AreSame, meets_agrees, refines_agrees}
@@ -37,13 +37,17 @@ pub holds_more : (P : ℕ → Type 0) (n t : ℕ) (b : Bool) → (IsTrue b ↔ P
 holds_more P n t b e h = subst (λ (z : ℕ). HoldsTimes P z (t + from_bool b)) (sym (add-one n)) (holds_next P n t b e h)
 
 -- the statement at a position has the digit of the try, by the parts that the code has
-pub put_given : (mode : Mode) (a : Item) (m : WidthMap) (x : World) (p n t w : ℕ) (es : List ℕ) (left : Span) (b : PlainAssignment) → slice_get a.statements p ≡ Some (assigned b) → w ≡ result_width m p → es ≡ edges_of a → left ≡ numbers_at a m p
-    → HasRhsDigit w x p (rhs_at mode w es left n (output t p) b.value) b.value → HasDigitAt a m x p (digit_at mode a m n t p)
-put_given mode a m x p n t w es left b e f g h d =
-    let i : HasRhsDigit w x p (rhs_at mode w es (numbers_at a m p) n (output t p) b.value) b.value = subst (λ (z : Span). HasRhsDigit w x p (rhs_at mode w es z n (output t p) b.value) b.value) h d in
-    let j : HasRhsDigit w x p (rhs_at mode w (edges_of a) (numbers_at a m p) n (output t p) b.value) b.value = subst (λ (z : List ℕ). HasRhsDigit w x p (rhs_at mode w z (numbers_at a m p) n (output t p) b.value) b.value) g i in
-    let k : HasRhsDigit (result_width m p) x p (rhs_at mode (result_width m p) (edges_of a) (numbers_at a m p) n (output t p) b.value) b.value =
-    subst (λ (z : ℕ). HasRhsDigit z x p (rhs_at mode z (edges_of a) (numbers_at a m p) n (output t p) b.value) b.value) f j
+pub put_given : (mode : Mode) (a : Item) (m : WidthMap) (x : World) (p n t w : ℕ) (es : List ℕ) (left : Span) (s : PlainStatement) → slice_get a.statements p ≡ Some s → w ≡ result_width m p → es ≡ edges_of a → left ≡ numbers_at a m p
+    → HasStatementDigit w x p (statement_at mode w es left n (output t p) (Some s)) (Some s) → HasDigitAt a m x p (digit_at mode a m n t p)
+put_given mode a m x p n t w es left s e f g h d =
+    let i : HasStatementDigit w x p (statement_at mode w es (numbers_at a m p) n (output t p) (Some s)) (Some s) =
+    subst (λ (z : Span). HasStatementDigit w x p (statement_at mode w es z n (output t p) (Some s)) (Some s)) h d
+    in
+    let j : HasStatementDigit w x p (statement_at mode w (edges_of a) (numbers_at a m p) n (output t p) (Some s)) (Some s) =
+    subst (λ (z : List ℕ). HasStatementDigit w x p (statement_at mode w z (numbers_at a m p) n (output t p) (Some s)) (Some s)) g i
+    in
+    let k : HasStatementDigit (result_width m p) x p (statement_at mode (result_width m p) (edges_of a) (numbers_at a m p) n (output t p) (Some s)) (Some s) =
+    subst (λ (z : ℕ). HasStatementDigit z x p (statement_at mode z (edges_of a) (numbers_at a m p) n (output t p) (Some s)) (Some s)) f j
     in
     subst (λ (o : Option PlainStatement). HasStatementDigit (result_width m p) x p (statement_at mode (result_width m p) (edges_of a) (numbers_at a m p) n (output t p) o) o) (sym e) k
 

@@ -1,6 +1,6 @@
 -- Definitions. Which conditions compare an input with a constant, and the numbers that meet them.
 --
--- Span of w bits are named by a first one and by the one after the last; after 2^w - 1 comes 0. Where both are the same, nothing is said.
+-- A span of numbers of w bits has a first one and an end, the one after the last; after 2^w - 1 comes 0. Where both are the same, nothing is said.
 -- A condition pins an input if it says that the input is a constant, or whether a comparison of the input with a constant holds.
 use Rattle.std.specs.Prelude.{ℕ, ◌+◌, ◌-◌, ◌%◌, ◌^◌, nat_eq, nat_le, nat_lt, min, Bool, true, false, List, [], ◌∷◌, Option, Some, None, ℤ, if◌then◌else◌, slice_get}
 use Rattle.std.specs.Int.{w128, cast_unsigned}

@@ -1,5 +1,5 @@
 -- Definitions. What a search for counterexamples says of a replacement.
-use Rattle.std.specs.Prelude.{◌≡◌, ℕ, zero, suc, ◌<◌, ◌⊎◌}
+use Rattle.std.specs.Prelude.{◌≡◌, ℕ, zero, suc, ◌<◌, ◌⊎◌, length}
 use Rattle.souper_graph.specs.Values.{Item}
 use Rattle.souper_graph.specs.WellFormed.{WellFormed}
 use Rattle.souper_widths.specs.Maps.{WidthMap}
@@ -11,6 +11,7 @@ use Rattle.souper_meaning.specs.View.{view_world}
 use Rattle.souper_meaning.specs.Sound.{Meets}
 use Rattle.souper_meaning.specs.Evaluable.{IsEvaluable}
 use Rattle.souper_meaning.specs.Exhausted.{RefinesIn}
+use Rattle.souper_meaning.specs.Stepping.{HasPlaces}
 use Rattle.souper_meaning.specs.Sampling.{IsTry}
 
 -- no try below n refutes the item
@@ -39,7 +40,7 @@ HoldsTimes P zero times = times ≡ 0
 HoldsTimes P (suc n) times = (P n × ((before : ℕ) × (times ≡ suc before) × HoldsTimes P n before)) ⊎ (¬ P n × HoldsTimes P n times)
 
 abbrev pub IsRefutationBy : Mode → Item → WidthMap → ℕ → ℕ → Refutation → Type 0
-IsRefutationBy mode a m tries seed (Refuted w) = IsFirstRefutingTry mode a m tries seed (view_world w)
+IsRefutationBy mode a m tries seed (Refuted w) = HasPlaces (length a.statements) (view_world w) × IsFirstRefutingTry mode a m tries seed (view_world w)
 IsRefutationBy mode a m tries seed (Unrefuted met) = AllTriesRefine mode a m seed tries × HoldsTimes (MeetsAtTry mode a m seed) tries met
 
 -- what the search found of an item, by its widths

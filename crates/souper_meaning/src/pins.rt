@@ -1,6 +1,6 @@
 //! Conditions that compare an input with a constant.
 
-ghost use Rattle.std.specs.Prelude.{◌≡◌, ◌<◌, ℕ, length, slice_get, slice_index_or, IfOk};
+ghost use Rattle.std.specs.Prelude.{◌≡◌, ◌<◌, ℕ, length, Some, slice_get, slice_index_or, IfOk};
 ghost use Rattle.souper_graph.specs.Instructions.{operands_of};
 ghost use Rattle.souper_graph.specs.View.{view_rhs, view_statement};
 ghost use Rattle.souper_graph.specs.PartsView.{view_parts};
@@ -122,31 +122,53 @@ fn pin_by(plan: &Plan, instruction: &Instruction, wanted: i128, comparison: Comp
     }
 }
 
+/// The pin of a comparison of two operands that is to be this constant, if one is a value and the other a constant.
+fn pin_of_both(
+    plan: &Plan,
+    instruction: &Instruction,
+    wanted: i128,
+    first: Operand,
+    second: Operand,
+) -> Option<Pin>
+    ensures { result ≡ pin_of_operands (view_widths plan.now.widths) wanted instruction.now (Some first) (Some second) }
+{
+    match first {
+        Operand::Value(id) => match second {
+            Operand::Value(_) => None,
+            Operand::Constant(constant) => {
+                let comparison = Comparison {
+                    position: Id::<Statement>::from(id).index(),
+                    constant: constant.value,
+                    is_right: true,
+                };
+                Some(pin_by(plan, instruction, wanted, comparison))
+            }
+        },
+        Operand::Constant(constant) => match second {
+            Operand::Value(id) => {
+                let comparison = Comparison {
+                    position: Id::<Statement>::from(id).index(),
+                    constant: constant.value,
+                    is_right: false,
+                };
+                Some(pin_by(plan, instruction, wanted, comparison))
+            }
+            Operand::Constant(_) => None,
+        },
+    }
+}
+
 /// The pin of an instruction that is to be this constant, if it compares a value with a constant.
 fn pin_of_instruction(plan: &Plan, instruction: &Instruction, wanted: i128) -> Option<Pin>
     ensures { result ≡ pin_of_operands (view_widths plan.now.widths) wanted instruction.now (slice_get (operands_of instruction.now) 0) (slice_get (operands_of instruction.now) 1) }
 {
     let operands = instruction.operands();
-    let first = operand_at(operands.as_slice(), 0);
-    let second = operand_at(operands.as_slice(), 1);
-    match (first, second) {
-        (Some(Operand::Value(id)), Some(Operand::Constant(constant))) => {
-            let comparison = Comparison {
-                position: Id::<Statement>::from(id).index(),
-                constant: constant.value,
-                is_right: true,
-            };
-            Some(pin_by(plan, instruction, wanted, comparison))
-        }
-        (Some(Operand::Constant(constant)), Some(Operand::Value(id))) => {
-            let comparison = Comparison {
-                position: Id::<Statement>::from(id).index(),
-                constant: constant.value,
-                is_right: false,
-            };
-            Some(pin_by(plan, instruction, wanted, comparison))
-        }
-        _ => None,
+    match operand_at(operands.as_slice(), 0) {
+        Some(first) => match operand_at(operands.as_slice(), 1) {
+            Some(second) => pin_of_both(plan, instruction, wanted, first, second),
+            None => None,
+        },
+        None => None,
     }
 }
 
@@ -175,15 +197,28 @@ fn pin_of_rhs(plan: &Plan, position: usize, rhs: &AssignmentRhs, wanted: i128) -
     }
 }
 
+/// The pin of the statement at a position, if its value is to be this constant.
+fn pin_of_assigned(
+    plan: &Plan,
+    position: usize,
+    statement: &Statement,
+    wanted: i128,
+) -> Option<Pin>
+    ensures { result ≡ pin_of_statement (view_widths plan.now.widths) position wanted (Some (view_statement statement.now)) }
+{
+    match statement {
+        Statement::Assignment(assignment) => pin_of_rhs(plan, position, &assignment.value, wanted),
+        Statement::Pc(_) => None,
+        Statement::BlockPc(_) => None,
+    }
+}
+
 /// The pin of the value at a position, which is to be this constant.
 fn pin_of_value(parts: &Parts<'_>, plan: &Plan, position: usize, wanted: i128) -> Option<Pin>
     ensures { result ≡ pin_of_statement (view_widths plan.now.widths) position wanted (slice_get (view_parts parts.now).statements position) }
 {
     match parts.statements.get(Id::at(position)) {
-        Some(Statement::Assignment(assignment)) => {
-            pin_of_rhs(plan, position, &assignment.value, wanted)
-        }
-        Some(_) => None,
+        Some(statement) => pin_of_assigned(plan, position, statement, wanted),
         None => None,
     }
 }
@@ -192,12 +227,15 @@ fn pin_of_value(parts: &Parts<'_>, plan: &Plan, position: usize, wanted: i128) -
 fn pin_of_condition(parts: &Parts<'_>, plan: &Plan, x: Operand, y: Operand) -> Option<Pin>
     ensures { result ≡ pin_of_pc (view_parts parts.now) (view_widths plan.now.widths) x y }
 {
-    match (x, y) {
-        (Operand::Value(id), Operand::Constant(constant)) => {
-            let position = Id::<Statement>::from(id).index();
-            pin_of_value(parts, plan, position, constant.value)
-        }
-        _ => None,
+    match x {
+        Operand::Value(id) => match y {
+            Operand::Value(_) => None,
+            Operand::Constant(constant) => {
+                let position = Id::<Statement>::from(id).index();
+                pin_of_value(parts, plan, position, constant.value)
+            }
+        },
+        Operand::Constant(_) => None,
     }
 }
 

@@ -30,7 +30,7 @@ use souper_words::Outcome;
 #[derive(Debug, Drop)]
 pub enum Refutation {
     /// The first world of the tries that meets the facts and conditions and in which the result may not stand for the replaced
-    /// root. It has an entry for each statement, and 0 where a statement is given nothing.
+    /// root. Each of its lists has an entry for each statement. The entries of needed inputs, blocks and freezes count.
     Refuted(World),
 
     /// No try refutes the replacement, which may still be unsound. This many of the tries met the facts and conditions.

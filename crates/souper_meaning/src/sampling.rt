@@ -1,14 +1,14 @@
 //! The worlds that a search for counterexamples tries, each in place of the one before.
 
-ghost use Rattle.std.specs.Prelude.{◌≡◌, ◌≢◌, ◌<◌, ◌≤◌, ℕ, length, slice_index_or};
-ghost use Rattle.souper_graph.specs.View.{view_rhs};
+ghost use Rattle.std.specs.Prelude.{◌≡◌, ◌≢◌, ◌<◌, ◌≤◌, ℕ, length, Some, slice_index_or};
+ghost use Rattle.souper_graph.specs.View.{view_rhs, view_statement};
 ghost use Rattle.souper_graph.specs.PartsView.{view_parts};
 ghost use Rattle.souper_widths.specs.View.{view_widths};
 ghost use Rattle.souper_graph.specs.Uses.{NeededIn};
 ghost use Rattle.souper_meaning.specs.View.{view_world, view_mode};
-ghost use Rattle.souper_meaning.specs.Numbering.{HasRhsDigit, HasDigitAt, HasDigits};
+ghost use Rattle.souper_meaning.specs.Numbering.{HasRhsDigit, HasStatementDigit, HasDigitAt, HasDigits};
 ghost use Rattle.souper_meaning.specs.Stepping.{HasPlaces, GiveSameAt};
-ghost use Rattle.souper_meaning.specs.Sampling.{output, scaled, rhs_at, digit_at};
+ghost use Rattle.souper_meaning.specs.Sampling.{output, scaled, rhs_at, statement_at, digit_at};
 ghost use Rattle.souper_meaning.specs.Pins.{unsaid};
 ghost use Rattle.souper_meaning.specs.Hints.{AreHints};
 ghost use Rattle.souper_meaning.specs.Plans.{IsPlan};
@@ -81,6 +81,34 @@ fn put_rhs(
     }
 }
 
+/// Gives the statement at a position of this state what the try says.
+fn put_statement(
+    world: &mut World,
+    position: usize,
+    left: Span,
+    width: u32,
+    tried: &Try<'_>,
+    statement: &Statement,
+)
+    requires width { width ≤ 128 }
+    requires some { 0 < length tried.now.hints.now.edges.items }
+    requires values { position < length world.old.values.items }
+    requires predecessors { position < length world.old.predecessors.items }
+    requires choices { position < length world.old.choices.items }
+    ensures places { (n : ℕ) → HasPlaces n (view_world world.old) → HasPlaces n (view_world world.new) }
+    ensures given { HasStatementDigit width (view_world world.new) position
+        (statement_at (view_mode tried.now.mode) width tried.now.hints.now.edges.items left tried.now.number (output tried.now.state position) (Some (view_statement statement.now))) (Some (view_statement statement.now)) }
+    ensures others { (p : ℕ) → p ≢ position → GiveSameAt (view_world world.old) (view_world world.new) p }
+{
+    match statement {
+        Statement::Assignment(assignment) => {
+            put_rhs(world, position, left, width, tried, &assignment.value)
+        }
+        Statement::Pc(_) => {}
+        Statement::BlockPc(_) => {}
+    }
+}
+
 /// Gives the statement at a position what the try says, if the item needs it.
 fn put_at(parts: &Parts<'_>, plan: &Plan, world: &mut World, tried: &Try<'_>, position: usize)
     requires planned { IsPlan (view_parts parts.now) plan.now }
@@ -97,19 +125,11 @@ fn put_at(parts: &Parts<'_>, plan: &Plan, world: &mut World, tried: &Try<'_>, po
         return;
     }
     match parts.statements.get(Id::at(position)) {
-        Some(Statement::Assignment(assignment)) => {
+        Some(statement) => {
             let widths = widths_at(plan, position);
             let left = numbers_at(&tried.hints.numbers, position);
-            put_rhs(
-                world,
-                position,
-                left,
-                widths.result,
-                tried,
-                &assignment.value,
-            );
+            put_statement(world, position, left, widths.result, tried, statement);
         }
-        Some(_) => {}
         None => {}
     }
 }

@@ -1,4 +1,4 @@
-//! Span of some width from a first one on.
+//! Spans of numbers of some width.
 
 ghost use Rattle.std.specs.Prelude.{◌≡◌, ◌%◌, ◌^◌};
 ghost use Rattle.souper_meaning.specs.Pins.{plus, minus, size, is_among, fewer, begun, common, shared, placed};
@@ -14,8 +14,8 @@ pub(crate) fn low_bits(n: u128, width: u32) -> u128
     }
 }
 
-/// Span of some width, from a first one to the one before the end. After the greatest comes 0. Where both are the same, nothing
-/// is said.
+/// The numbers of some width from a first one to the one before the end. After the greatest comes 0. Where both are the same,
+/// nothing is said.
 #[derive(Clone, Copy)]
 pub(crate) struct Span {
     pub(crate) first: u128,

@@ -7,4 +7,4 @@ use Rattle.souper_meaning.proofs.edges.edges_of.Given as goal
 
 abbrev pub invariant-loop-statement : goal.invariant-loop-statement
 invariant-loop-statement l = (goal.iterator-loop-statement).can_next l.statement-iterator × (goal.iterator-loop-statement).is_finite l.statement-iterator
-    × (l.edges.items ++ neighbours_among l.statement-iterator ≡ l.initial.edges.items ++ flat_map neighbours_of_statement (map view_statement l.parts.statements))
+    × (l.edges.items ++ neighbours_among l.statement-iterator ≡ l.initial.edges.items ++ flat_map neighbours_of_statement (map view_statement l.parts.statements.now))

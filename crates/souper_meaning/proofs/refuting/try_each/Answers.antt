@@ -44,20 +44,22 @@ pub returns-then-refutes-clause-decided : goal.returns-then-refutes-clause-decid
 returns-then-refutes-clause-decided c =
     let a : Item = view_parts c.args.parts.now in
     let m : WidthMap = view_widths c.args.plan.now.widths in
-    let t = c.refutes.ensures.0 c.if-refutes.true in
-    record {
-      number = c.loop-number.number;
-      inside = omega (arith, c.loop-number-test.true);
-      tried = try_here (view_mode c.args.mode) a m c.args.plan.now.needed.items c.requires.planned.well_formed c.requires.planned.marked c.requires.some c.args.seed c.loop-number.number c.output_of-state.result (view_world c.put_try.new.world)
-          c.output_of-state.ensures c.put_try.ensures.given;
-      meets = c.trial_of-trial.ensures.met.0 t.0;
-      fails = λ r. t.1 (c.trial_of-trial.ensures.refined.1 r);
-      before = c.loop-number.invariant.refine;
-    }
+    let t = c.refutes.ensures.0 c.if-refutes.true in (
+      c.put_try.ensures.places,
+      record {
+        number = c.loop-number.number;
+        inside = omega (arith, c.loop-number-test.true);
+        tried = try_here (view_mode c.args.mode) a m c.args.plan.now.needed.items c.requires.planned.well_formed c.requires.planned.marked c.requires.some c.args.seed c.loop-number.number c.output_of-state.result (view_world c.put_try.new.world)
+            c.output_of-state.ensures c.put_try.ensures.given;
+        meets = c.trial_of-trial.ensures.met.0 t.0;
+        fails = λ r. t.1 (c.trial_of-trial.ensures.refined.1 r);
+        before = c.loop-number.invariant.refine;
+      },
+    )
 
 pub overflow_add-met : goal.overflow_add-met
 overflow_add-met c =
-    let b : c.from.result ≤ 1 = subst (λ (z : ℕ). z ≤ 1) (sym c.from.ensures) (bit_small c.trial_of-trial.result.is_met) in
+    let b : c.from-met.result ≤ 1 = subst (λ (z : ℕ). z ≤ 1) (sym c.from-met.ensures) (bit_small c.trial_of-trial.result.is_met) in
     omega (arith, b, c.loop-number.invariant.few, c.loop-number-test.true, c.ranges.tries.fits)
 
 pub loop-number-preserved : goal.loop-number-preserved
@@ -67,7 +69,7 @@ loop-number-preserved c =
     let m : WidthMap = view_widths c.args.plan.now.widths in
     let k : ℕ = c.loop-number.number in
     let x : World = view_world c.put_try.new.world in
-    let b : c.from.result ≤ 1 = subst (λ (z : ℕ). z ≤ 1) (sym c.from.ensures) (bit_small c.trial_of-trial.result.is_met) in
+    let b : c.from-met.result ≤ 1 = subst (λ (z : ℕ). z ≤ 1) (sym c.from-met.ensures) (bit_small c.trial_of-trial.result.is_met) in
     let here : IsTry mode a m c.args.seed k x =
     try_here mode a m c.args.plan.now.needed.items c.requires.planned.well_formed c.requires.planned.marked c.requires.some c.args.seed k c.output_of-state.result x c.output_of-state.ensures c.put_try.ensures.given
     in
@@ -78,7 +80,7 @@ loop-number-preserved c =
       refine = refined_more mode a m c.args.seed c.requires.planned.well_formed k x here c.trial_of-trial.result.is_met c.trial_of-trial.result.is_refined c.trial_of-trial.ensures.met c.trial_of-trial.ensures.refined
           (λ t. false≢true (sym c.if-refutes.false ∙ c.refutes.ensures.1 t)) c.loop-number.invariant.refine;
       few = omega (arith, b, c.loop-number.invariant.few);
-      met = subst (λ (z : ℕ). HoldsTimes (MeetsAtTry mode a m c.args.seed) (k + 1) (c.loop-number.met + z)) (sym c.from.ensures)
+      met = subst (λ (z : ℕ). HoldsTimes (MeetsAtTry mode a m c.args.seed) (k + 1) (c.loop-number.met + z)) (sym c.from-met.ensures)
           (met_more mode a m c.args.seed c.requires.planned.well_formed k x here c.trial_of-trial.result.is_met c.trial_of-trial.ensures.met c.loop-number.met c.loop-number.invariant.met);
     }
 
