@@ -1,11 +1,10 @@
 -- What the tries below a number say.
-use Rattle.std.proofs.Common.{◌≡◌, ◌↔◌, ℕ, zero, suc, ◌+◌, ◌<◌, Bool, true, false, List, length, Option, Some, slice_get, refl, sym, ap, subst, ◌∙◌, arith, inl, inr, add-one, add-zero}
+use Rattle.std.proofs.Common.{◌≡◌, ◌↔◌, ℕ, zero, suc, ◌+◌, ◌<◌, Bool, true, false, List, length, Option, Some, slice_get, refl, sym, subst, arith, inl, inr, add-one, add-zero}
 use Rattle.std.specs.Prelude.{IsTrue}
 use Rattle.std.specs.Int.{from_bool}
 use Rattle.std.proofs.lemmas.Bool.{false≢true}
 use Rattle.std.proofs.lemmas.Bool.Decides.{eqb_tells}
 use Rattle.souper_graph.specs.Values.{PlainStatement, Item}
-use Rattle.souper_graph.specs.Uses.{NeededIn}
 use Rattle.souper_graph.specs.WellFormed.{WellFormed}
 use Rattle.souper_graph.proofs.Judging.Needed.{well_formed_inside}
 use Rattle.souper_widths.specs.Maps.{WidthMap, result_width}

@@ -6,7 +6,7 @@
 -- an input (`Pins`), it is not poison, and the digit is one that they leave. The digit of a block is any of its predecessors. These
 -- choices are by the generator SplitMix64: the seed is the state from which output n is the state of try n, from which output p is the state
 -- of position p.
-use Rattle.std.specs.Prelude.{ℕ, ◌+◌, ◌-◌, ◌*◌, ◌/◌, ◌%◌, ◌^◌, nat_eq, nat_le, nat_lt, Bool, ◌&&◌, List, [], ◌∷◌, ◌++◌, length, flat_map, Option, Some, None, ℤ, pos, if◌then◌else◌, slice_get, slice_index, bit_xor}
+use Rattle.std.specs.Prelude.{ℕ, ◌+◌, ◌-◌, ◌*◌, ◌/◌, ◌%◌, ◌^◌, nat_eq, nat_le, nat_lt, Bool, ◌&&◌, List, [], ◌∷◌, ◌++◌, length, flat_map, Option, Some, ℤ, pos, if◌then◌else◌, slice_get, slice_index, bit_xor}
 use Rattle.std.specs.Int.{w128, cast_unsigned}
 use Rattle.souper_graph.specs.declared.ast.operands.Operand.{Operand}
 use Rattle.souper_graph.specs.declared.ast.operands.Operand.TheVariants.{Value, Constant}

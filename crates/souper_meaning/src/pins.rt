@@ -198,12 +198,7 @@ fn pin_of_rhs(plan: &Plan, position: usize, rhs: &AssignmentRhs, wanted: i128) -
 }
 
 /// The pin of the statement at a position, if its value is to be this constant.
-fn pin_of_assigned(
-    plan: &Plan,
-    position: usize,
-    statement: &Statement,
-    wanted: i128,
-) -> Option<Pin>
+fn pin_of_assigned(plan: &Plan, position: usize, statement: &Statement, wanted: i128) -> Option<Pin>
     ensures { result ≡ pin_of_statement (view_widths plan.now.widths) position wanted (Some (view_statement statement.now)) }
 {
     match statement {

@@ -1,5 +1,4 @@
 use Rattle.std.proofs.Common.{◌≡◌, ◌∙◌, ℕ, List, sym, ap}
-use Rattle.souper_words.specs.declared.outcome.Outcome.{Outcome}
 use Rattle.souper_words.specs.declared.outcome.Outcome.TheVariants.{Number}
 use Rattle.souper_meaning.specs.Pins.{placed}
 use Rattle.souper_meaning.specs.Sampling.{pinned_at}

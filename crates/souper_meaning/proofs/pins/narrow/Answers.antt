@@ -1,4 +1,4 @@
-use Rattle.std.proofs.Common.{◌≡◌, ◌∙◌, ℕ, List, Option, sym, ap}
+use Rattle.std.proofs.Common.{◌∙◌, List, Option, sym, ap}
 use Rattle.std.specs.Prelude.{slice_index_or}
 use Rattle.souper_widths.specs.Maps.{WidthMap}
 use Rattle.souper_widths.specs.View.{view_widths}

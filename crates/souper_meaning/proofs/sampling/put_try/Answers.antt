@@ -1,4 +1,4 @@
-use Rattle.std.proofs.Common.{ℕ, length, refl, arith}
+use Rattle.std.proofs.Common.{ℕ, refl, arith}
 use Rattle.std.proofs.lemmas.List.{length-map}
 use Rattle.souper_graph.specs.Values.{Item}
 use Rattle.souper_graph.specs.View.{view_statement}
