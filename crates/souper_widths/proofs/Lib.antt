@@ -33,3 +33,7 @@ mod LimitFlaws
 mod FlawClasses
 mod Flawless
 mod OneFlaw
+mod ForwardOperands
+mod ForwardRows
+mod ForwardSteps
+mod ForwardLines

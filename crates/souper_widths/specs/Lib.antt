@@ -12,6 +12,7 @@ pub mod Lines
 pub mod Errors
 pub mod Examples
 pub mod Forest
+pub mod Forward
 pub mod Ties
 pub mod Nodes
 pub mod Marking

@@ -8,6 +8,7 @@ mod conflicts;
 mod equations;
 mod flaws;
 mod forest;
+mod forward;
 mod item_widths;
 mod last_lines;
 pub mod laws;

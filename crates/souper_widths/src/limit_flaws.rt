@@ -67,7 +67,7 @@ fn statements_limit(parts: &Parts<'_>, marks: &[bool], widths: &Widths) -> Optio
 }
 
 // The first flaw of the limits of the last lines, whose operands have this width.
-fn lines_limit(parts: &Parts<'_>, width: u32) -> Option<WidthFlaw>
+pub(crate) fn lines_limit(parts: &Parts<'_>, width: u32) -> Option<WidthFlaw>
     ensures { MatchOption result
         (LinesKept width (view_parts parts.now).ending)
         (λ flaw. IsLimitFlawOfLines width (view_parts parts.now).ending flaw.location flaw.reason) }

@@ -16,7 +16,7 @@ use souper_graph::ast::{
 };
 
 // The result of zext and sext is wider than the operand.
-fn widens(rhs: &AssignmentRhs, operand: u32, result_width: u32) -> bool
+pub(crate) fn widens(rhs: &AssignmentRhs, operand: u32, result_width: u32) -> bool
     ensures { IsTrue result ↔ OnInstruction (Widens operand result_width) (view_rhs rhs.now) }
 {
     match rhs {
@@ -29,7 +29,7 @@ fn widens(rhs: &AssignmentRhs, operand: u32, result_width: u32) -> bool
 }
 
 // The result of trunc is narrower.
-fn narrows(rhs: &AssignmentRhs, operand: u32, result_width: u32) -> bool
+pub(crate) fn narrows(rhs: &AssignmentRhs, operand: u32, result_width: u32) -> bool
     ensures { IsTrue result ↔ OnInstruction (Narrows operand result_width) (view_rhs rhs.now) }
 {
     match rhs {
@@ -42,7 +42,7 @@ fn narrows(rhs: &AssignmentRhs, operand: u32, result_width: u32) -> bool
 }
 
 // The width of bswap is a multiple of 16.
-fn has_byte_pairs(rhs: &AssignmentRhs, width: u32) -> bool
+pub(crate) fn has_byte_pairs(rhs: &AssignmentRhs, width: u32) -> bool
     ensures { IsTrue result ↔ OnInstruction (HasBytePairs width) (view_rhs rhs.now) }
 {
     match rhs {
@@ -81,7 +81,7 @@ fn has_sign_bits(attribute: &Attribute, width: u32) -> bool
     }
 }
 
-fn have_bit_counts(attributes: &[Attribute], width: u32) -> bool
+pub(crate) fn have_bit_counts(attributes: &[Attribute], width: u32) -> bool
     ensures { IsTrue result ↔ AllByRecursion (HasBitCount width) (map view_attribute attributes.now) }
 {
     for attribute in attributes {
@@ -92,7 +92,7 @@ fn have_bit_counts(attributes: &[Attribute], width: u32) -> bool
     true
 }
 
-fn have_sign_bits(attributes: &[Attribute], width: u32) -> bool
+pub(crate) fn have_sign_bits(attributes: &[Attribute], width: u32) -> bool
     ensures { IsTrue result ↔ AllByRecursion (HasSignBits width) (map view_attribute attributes.now) }
 {
     for attribute in attributes {
@@ -197,7 +197,7 @@ fn has_range(attribute: &Attribute, width: u32) -> bool
     }
 }
 
-fn have_ranges(attributes: &[Attribute], width: u32) -> bool
+pub(crate) fn have_ranges(attributes: &[Attribute], width: u32) -> bool
     ensures { IsTrue result ↔ AllByRecursion (HasRange width) (map view_attribute attributes.now) }
 {
     for attribute in attributes {
@@ -208,7 +208,7 @@ fn have_ranges(attributes: &[Attribute], width: u32) -> bool
     true
 }
 
-fn constant_fits(operand: Operand, width: u32) -> bool
+pub(crate) fn constant_fits(operand: Operand, width: u32) -> bool
     ensures { IsTrue result ↔ FitsBits width operand }
 {
     match operand {
@@ -217,7 +217,7 @@ fn constant_fits(operand: Operand, width: u32) -> bool
     }
 }
 
-fn constants_fit(operands: &[Operand], width: u32) -> bool
+pub(crate) fn constants_fit(operands: &[Operand], width: u32) -> bool
     ensures { IsTrue result ↔ AllByRecursion (FitsBits width) operands.now }
 {
     for operand in operands {

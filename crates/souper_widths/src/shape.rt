@@ -11,7 +11,7 @@ use crate::flaws::WidthReason;
 use crate::rows::{Row, statement_row};
 use souper_graph::ast::{Arena, AssignmentRhs, Attribute, Id, Operand, Statement};
 
-fn is_input(rhs: &AssignmentRhs) -> bool
+pub(crate) fn is_input(rhs: &AssignmentRhs) -> bool
     ensures { IsTrue result ↔ IsInput (view_rhs rhs.now) }
 {
     match rhs {
@@ -148,7 +148,7 @@ pub(crate) fn operands_reason(
 }
 
 // Facts are about an input alone.
-fn facts_are_allowed(attributes: &[Attribute], is_input: bool) -> bool
+pub(crate) fn facts_are_allowed(attributes: &[Attribute], is_input: bool) -> bool
     ensures { IsTrue result ↔ AllByRecursion (λ f. IsFact f → IsTrue is_input) (map view_attribute attributes.now) }
 {
     for attribute in attributes {
