@@ -1,5 +1,5 @@
 -- The pass over the statements: what is known of the first p results and operands.
-use Rattle.std.proofs.Common.{◌≡◌, ◌≢◌, ◌⊎◌, ℕ, zero, suc, ◌+◌, ◌<◌, ◌≤◌, inl, inr, List, [], ◌∷◌, ◌++◌, length, get_or, Option, Some, None, refl, sym, ap, subst, ◌∙◌, arith, below_more}
+use Rattle.std.proofs.Common.{◌≡◌, ◌≢◌, ◌⊎◌, ℕ, zero, suc, ◌+◌, ◌<◌, ◌≤◌, inl, inr, Bool, true, false, List, [], ◌∷◌, ◌++◌, length, get_or, Option, Some, None, refl, sym, ap, subst, ◌∙◌, arith, below_more}
 use Rattle.std.specs.Prelude.{slice_get}
 use Rattle.std.specs.List.{AllByRecursion}
 use Rattle.std.proofs.lemmas.List.{get_or_push, length-append}
@@ -20,7 +20,8 @@ use Rattle.souper_widths.specs.Shape.{IsPairRow, IsPair, IsPairOperand, IsBlockO
 use Rattle.souper_widths.specs.Limits.{KeepsAt, limit_reasons}
 use Rattle.souper_widths.specs.Kept.{KeptStatement}
 use Rattle.souper_widths.specs.Typed.{HasWidths}
-use Rattle.souper_widths.specs.Forward.{AgreesBefore, HasResult, IsSingleRow, Forced}
+use Rattle.souper_widths.specs.Forward.{AgreesBefore, HasResult, IsSingleRow, Forced, ForcedOptional}
+use Rattle.souper_widths.specs.Nodes.{MarkNeeded}
 use Rattle.souper_widths.proofs.KeptLimits.{statement-kept}
 
 -- a statement with a result is no block and no pair
@@ -202,3 +203,18 @@ start a rs os e f = record {
   unneeded = λ q l. absurd (omega (arith, l));
   only = λ n hn i l. absurd (omega (arith, l));
 }
+
+forced-some : (rs : List ℕ) (o : Option PlainStatement) (w v : ℕ) → ForcedOptional rs o w v → (s : PlainStatement) × (o ≡ Some s) × Forced rs s w v
+forced-some rs None w v h = absurd h
+forced-some rs (Some s) w v h = (s, refl, h)
+
+true-or_not : (b : Bool) → (b ≡ true) ⊎ (b ≢ true)
+true-or_not true = inl refl
+true-or_not false = inr (λ e. absurd (cc e))
+
+-- the widths that are found at p, by its mark
+pub found-step : (a : Item) (marks : List Bool) (rs : List ℕ) (p w v : ℕ) → MarkNeeded a marks → (get_or marks p false ≡ true → ForcedOptional rs (slice_get a.statements p) w v) → (get_or marks p false ≢ true → (w ≡ 0) × (v ≡ 0)) → StepAt a rs p w v
+found-step a marks rs p w v k needed other = elim (true-or_not (get_or marks p false)) [
+  | inl e ↦ let f = forced-some rs (slice_get a.statements p) w v (needed e) in inl (f.0, (k.exact p).0 e, f.1, f.2)
+  | inr ne ↦ inr ((λ n. ne ((k.exact p).1 n)), (other ne).0, (other ne).1)
+]

@@ -9,6 +9,7 @@ ghost use Rattle.souper_widths.specs.Errors.{IsWidthsError};
 ghost use Rattle.souper_widths.specs.Nodes.{MarkNeeded};
 
 use crate::flaws::{WidthFlaw, WidthReason, WidthsError};
+use crate::forward::forward_widths;
 use crate::item_widths::{Widths, widths_by};
 use crate::limit_flaws::limit_flaw;
 use crate::needed::needed_marks;
@@ -49,7 +50,10 @@ fn needed_widths(parts: &Parts<'_>) -> Result<Widths, WidthsError>
     ensures flawed { IfErr result (λ error. IsWidthsError (view_parts parts.now) error) }
 {
     let marks = needed_marks(parts)?;
-    marked_widths(parts, &marks)
+    match forward_widths(parts, &marks)? {
+        Some(widths) => Ok(widths),
+        None => marked_widths(parts, &marks),
+    }
 }
 
 /// The widths of an item that is known to be well formed, as [`widths`] returns them.
