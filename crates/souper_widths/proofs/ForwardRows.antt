@@ -143,7 +143,7 @@ bit-own : (rs : List ℕ) (b : ℕ) (xs : List Operand) → ForceWidth rs b xs �
 bit-own rs b xs (inl h) l = own-at rs b 1 xs (omega (arith, h.0, l)) h.1
 bit-own rs b xs (inr h) l = own-free rs 1 xs h.1
 
-pub select-forced : (rs : List ℕ) (t : Option Ty) (c : Operand) (xs : List Operand) (b w v : ℕ) → ForceWidth rs b (c ∷ []) → b ≤ 1 → FitsBits 1 c → ForcedRow rs t Same xs w v → ForcedRow rs t Select (c ∷ xs) w v
+select-forced : (rs : List ℕ) (t : Option Ty) (c : Operand) (xs : List Operand) (b w v : ℕ) → ForceWidth rs b (c ∷ []) → b ≤ 1 → FitsBits 1 c → ForcedRow rs t Same xs w v → ForcedRow rs t Select (c ∷ xs) w v
 select-forced rs t c xs b w v f l fit same = record {
   solves = λ m p ag e o.
       let k = same.solves m p ag e o in
@@ -173,3 +173,9 @@ without-operands own rs t r xs (Some widths) e f h =
 pub none-of : (xs : List Operand) → length xs ≡ 0 → xs ≡ []
 none-of [] h = refl
 none-of (x ∷ xs) h = absurd (omega (arith, h))
+
+pub select-some : (rs : List ℕ) (t : Option Ty) (c : Operand) (arms xs : List Operand) (b : ℕ) (o : Option (ℕ × ℕ)) → xs ≡ c ∷ arms → ForceWidth rs b (c ∷ []) → b ≤ 1 → FitsBits 1 c
+    → IfSome o (λ widths. ForcedRow rs t Same arms widths.0 widths.1) → IfSome o (λ widths. ForcedRow rs t Select xs widths.0 widths.1)
+select-some rs t c arms xs b None e f l fit h = tt
+select-some rs t c arms xs b (Some widths) e f l fit h =
+    subst (λ (z : List Operand). ForcedRow rs t Select z widths.0 widths.1) (sym e) (select-forced rs t c arms b widths.0 widths.1 f l fit h)
