@@ -1,5 +1,5 @@
 -- The widths that a type, a row and operands force.
-use Rattle.std.proofs.Common.{◌≡◌, ◌≢◌, ℕ, ◌≤◌, inl, inr, List, [], ◌∷◌, ◌++◌, Option, Some, None, length, refl, sym, subst, ◌∙◌, arith}
+use Rattle.std.proofs.Common.{◌≡◌, ◌≢◌, ℕ, ◌≤◌, inl, inr, List, [], ◌∷◌, ◌++◌, Option, Some, None, refl, sym, subst, ◌∙◌, arith}
 use Rattle.std.specs.Prelude.{flat_map, IfSome}
 use Rattle.std.specs.List.{AllByRecursion}
 use Rattle.souper_graph.specs.declared.ast.operands.«Type».{«Type» as Ty}
@@ -163,16 +163,19 @@ select-forced rs t c xs b w v f l fit same = record {
     one : ◌≢◌ {A = ℕ} 1 0
     one = λ e. absurd (omega (arith, e))
 
+-- a row and operands that are known
+pub known-row : (own : Row) (rs : List ℕ) (t : Option Ty) (r : Row) (xs ys : List Operand) (o : Option (ℕ × ℕ)) → r ≡ own → xs ≡ ys → IfSome o (λ widths. ForcedRow rs t own ys widths.0 widths.1)
+    → IfSome o (λ widths. ForcedRow rs t r xs widths.0 widths.1)
+known-row own rs t r xs ys None e f h = tt
+known-row own rs t r xs ys (Some widths) e f h =
+    subst (λ (z : Row). ForcedRow rs t z xs widths.0 widths.1) (sym e) (subst (λ (z : List Operand). ForcedRow rs t own z widths.0 widths.1) (sym f) h)
+
 -- a row that is known, with no operands
 pub without-operands : (own : Row) (rs : List ℕ) (t : Option Ty) (r : Row) (xs : List Operand) (o : Option (ℕ × ℕ)) → r ≡ own → xs ≡ [] → IfSome o (λ widths. (ks : List ℕ) → ForcedRow ks t own [] widths.0 widths.1)
     → IfSome o (λ widths. ForcedRow rs t r xs widths.0 widths.1)
 without-operands own rs t r xs None e f h = tt
 without-operands own rs t r xs (Some widths) e f h =
     subst (λ (z : Row). ForcedRow rs t z xs widths.0 widths.1) (sym e) (subst (λ (z : List Operand). ForcedRow rs t own z widths.0 widths.1) (sym f) (h rs))
-
-pub none-of : (xs : List Operand) → length xs ≡ 0 → xs ≡ []
-none-of [] h = refl
-none-of (x ∷ xs) h = absurd (omega (arith, h))
 
 pub select-some : (rs : List ℕ) (t : Option Ty) (c : Operand) (arms xs : List Operand) (b : ℕ) (o : Option (ℕ × ℕ)) → xs ≡ c ∷ arms → ForceWidth rs b (c ∷ []) → b ≤ 1 → FitsBits 1 c
     → IfSome o (λ widths. ForcedRow rs t Same arms widths.0 widths.1) → IfSome o (λ widths. ForcedRow rs t Select xs widths.0 widths.1)

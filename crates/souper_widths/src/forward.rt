@@ -7,7 +7,8 @@ ghost use Rattle.souper_graph.specs.View.{view_attribute, view_rhs, view_assignm
 ghost use Rattle.souper_graph.specs.PartsView.{view_parts};
 ghost use Rattle.souper_graph.specs.WellFormed.{WellFormed};
 ghost use Rattle.souper_widths.specs.declared.rows.Row.TheVariants.{Input as input_row, Block as block_row, Phi as phi_row, Same as same_row, Bit as bit_row, Resized as resized_row, Select as select_row, Condition as condition_row};
-ghost use Rattle.souper_widths.specs.Table.{rhs_row, operands_of_rhs};
+ghost use Rattle.souper_graph.specs.Instructions.{operands_of};
+ghost use Rattle.souper_widths.specs.Table.{instruction_row, rhs_row, operands_of_rhs};
 ghost use Rattle.souper_widths.specs.Shape.{IsInput, IsFact};
 ghost use Rattle.souper_widths.specs.Limits.{OnInstruction, Widens, Narrows, HasBytePairs, HasBitCount, HasSignBits, HasRange};
 ghost use Rattle.souper_widths.specs.Forward.{IsWritten, AreJoined, ForceWidth, IsForcedBy, ForcedRow, Forced, ForcedOptional, ForcedLines};
@@ -21,10 +22,9 @@ use crate::limits::{
     constant_fits, constants_fit, has_byte_pairs, have_bit_counts, have_ranges, have_sign_bits,
     narrows, widens,
 };
-use crate::rows::{Row, instruction_row_of};
 use crate::shape::{facts_are_allowed, is_input};
 use souper_graph::ast::{
-    Arena, Assignment, AssignmentRhs, Attribute, Id, Operand, Parts, Statement, Type,
+    Arena, Assignment, AssignmentRhs, Attribute, Id, Instruction, Operand, Parts, Statement, Type,
 };
 use std::alloc::AllocError;
 
@@ -173,25 +173,69 @@ fn resized_widths(results: &[u32], ty: Option<Type>, operands: &[Operand]) -> Op
     if own == 0 { None } else { Some((own, width)) }
 }
 
-// The widths of an instruction of this row. None for pairs and their parts.
+// The widths of an instruction. None for pairs and their parts.
 #[inline(always)]
-fn row_widths(
+fn instruction_widths(
     results: &[u32],
     ty: Option<Type>,
-    row: Row,
-    operands: &[Operand],
+    instruction: &Instruction,
 ) -> Option<(u32, u32)>
-    ensures { IfSome result (λ widths. ForcedRow results.now ty row operands.now widths.0 widths.1) }
+    ensures { IfSome result (λ widths. ForcedRow results.now ty (instruction_row instruction.now) (operands_of instruction.now) widths.0 widths.1) }
 {
-    match row {
-        Row::Same => same_widths(results, ty, operands),
-        Row::Bit => bit_widths(results, ty, operands),
-        Row::Resized => resized_widths(results, ty, operands),
-        Row::Select => select_widths(results, ty, operands),
-        Row::Input => match operands.split_first() {
-            Some(_) => None,
-            None => input_widths(ty),
-        },
+    match instruction {
+        Instruction::Hole => input_widths(ty),
+        Instruction::Zext { a } | Instruction::Sext { a } | Instruction::Trunc { a } => {
+            resized_widths(results, ty, &[*a])
+        }
+        Instruction::Select { a, b, c } => select_widths(results, ty, &[*a, *b, *c]),
+        Instruction::Eq { a, b }
+        | Instruction::Ne { a, b }
+        | Instruction::Ult { a, b }
+        | Instruction::Slt { a, b }
+        | Instruction::Ule { a, b }
+        | Instruction::Sle { a, b } => bit_widths(results, ty, &[*a, *b]),
+        Instruction::Ctpop { a }
+        | Instruction::Bswap { a }
+        | Instruction::BitReverse { a }
+        | Instruction::Cttz { a }
+        | Instruction::Ctlz { a }
+        | Instruction::Freeze { a } => same_widths(results, ty, &[*a]),
+        Instruction::Fshl { a, b, c } | Instruction::Fshr { a, b, c } => {
+            same_widths(results, ty, &[*a, *b, *c])
+        }
+        Instruction::Add { a, b }
+        | Instruction::AddNsw { a, b }
+        | Instruction::AddNuw { a, b }
+        | Instruction::AddNw { a, b }
+        | Instruction::Sub { a, b }
+        | Instruction::SubNsw { a, b }
+        | Instruction::SubNuw { a, b }
+        | Instruction::SubNw { a, b }
+        | Instruction::Mul { a, b }
+        | Instruction::MulNsw { a, b }
+        | Instruction::MulNuw { a, b }
+        | Instruction::MulNw { a, b }
+        | Instruction::Udiv { a, b }
+        | Instruction::Sdiv { a, b }
+        | Instruction::UdivExact { a, b }
+        | Instruction::SdivExact { a, b }
+        | Instruction::Urem { a, b }
+        | Instruction::Srem { a, b }
+        | Instruction::And { a, b }
+        | Instruction::Or { a, b }
+        | Instruction::Xor { a, b }
+        | Instruction::Shl { a, b }
+        | Instruction::ShlNsw { a, b }
+        | Instruction::ShlNuw { a, b }
+        | Instruction::ShlNw { a, b }
+        | Instruction::Lshr { a, b }
+        | Instruction::LshrExact { a, b }
+        | Instruction::Ashr { a, b }
+        | Instruction::AshrExact { a, b }
+        | Instruction::SaddSat { a, b }
+        | Instruction::UaddSat { a, b }
+        | Instruction::SsubSat { a, b }
+        | Instruction::UsubSat { a, b } => same_widths(results, ty, &[*a, *b]),
         _ => None,
     }
 }
@@ -206,11 +250,7 @@ fn rhs_widths(results: &[u32], ty: Option<Type>, rhs: &AssignmentRhs) -> Option<
         }
         AssignmentRhs::Block(_) => block_widths(ty),
         AssignmentRhs::Phi(phi) => same_widths(results, ty, &phi.values),
-        AssignmentRhs::Instruction(instruction) => {
-            let operands = instruction.operands();
-            let row = instruction_row_of(instruction);
-            row_widths(results, ty, row, operands.as_slice())
-        }
+        AssignmentRhs::Instruction(instruction) => instruction_widths(results, ty, instruction),
     }
 }
 

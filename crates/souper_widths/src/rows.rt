@@ -66,7 +66,7 @@ fn part_row(index: Operand) -> Row
 }
 
 #[inline(always)]
-pub(crate) fn instruction_row_of(instruction: &Instruction) -> Row
+fn instruction_row_of(instruction: &Instruction) -> Row
     ensures { result ≡ instruction_row instruction.now }
 {
     match instruction {
