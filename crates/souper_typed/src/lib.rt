@@ -10,6 +10,7 @@ pub mod laws;
 mod numbers;
 mod operands;
 mod statements;
+mod unchanged;
 mod writing;
 
 pub use form::Form;

@@ -8,6 +8,7 @@ ghost use Rattle.souper_typed.specs.Written.{written_attribute, written_rhs, wri
 use crate::form::Form;
 use crate::numbers::{type_of_width, write_number};
 use crate::operands::{write_instruction, write_operand, write_operands};
+use crate::unchanged::instruction_stays;
 use souper_graph::ast::{Arena, Assignment, AssignmentRhs, Attribute, Id, Statement};
 use souper_widths::Widths;
 
@@ -35,7 +36,9 @@ fn write_rhs(form: Form, width: u32, rhs: &mut AssignmentRhs)
     match rhs {
         AssignmentRhs::Phi(phi) => write_operands(form, width, &mut phi.values),
         AssignmentRhs::Instruction(instruction) => {
-            *instruction = write_instruction(form, width, *instruction);
+            if !instruction_stays(form, width, instruction) {
+                *instruction = write_instruction(form, width, *instruction);
+            }
         }
         AssignmentRhs::Var => {}
         AssignmentRhs::Block(_) => {}
