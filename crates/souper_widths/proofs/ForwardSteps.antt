@@ -124,9 +124,14 @@ plain-here ss rs p w v s e f n = (
 shaped-here : (a : Item) (rs os : List ℕ) (p w v : ℕ) (s : PlainStatement) → ForwardTo a rs os p → slice_get a.statements p ≡ Some s → Forced rs s w v → AllByRecursion (ShapedAt a (Statement p)) shape_reasons
 shaped-here a rs os p w v s h e f =
     let plain : IsPlainBefore a.statements rs (length rs) = (λ i l. h.plain i (omega (arith, l, h.results))) in
-    subst (λ (o : Option PlainStatement). AllByRecursion (ShapedOptional a.statements o) shape_reasons) (sym e)
-    (f.row.untyped, (f.facts, single-shape a.statements (row_of s) (operands_in s) f.row.single
-    (no-blocks a.statements rs (operands_in s) plain f.row.values) (no-pairs a.statements rs (operands_in s) plain f.row.values)))
+    subst (λ (o : Option PlainStatement). AllByRecursion (ShapedOptional a.statements o) shape_reasons) (sym e) (
+      f.row.untyped,
+      (
+        f.facts,
+        single-shape a.statements (row_of s) (operands_in s) f.row.single
+            (no-blocks a.statements rs (operands_in s) plain f.row.values) (no-pairs a.statements rs (operands_in s) plain f.row.values),
+      ),
+    )
 
 solves-here : (a : Item) (m : WidthMap) (rs : List ℕ) (p w v : ℕ) (s : PlainStatement) → slice_get a.statements p ≡ Some s → Forced rs s w v → AgreesBefore m rs → result_width m p ≡ w → operand_width m p ≡ v → SolvesAt a m (Statement p)
 solves-here a m rs p w v s e f ag r o = subst (λ (z : Option PlainStatement). AllByRecursion (Holds m) (statement_equations p z)) (sym e) (f.row.solves m p ag r o)

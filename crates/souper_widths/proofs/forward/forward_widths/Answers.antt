@@ -19,7 +19,7 @@ loop-position-preserved c =
     let w : ℕ = c.in-Some.own in
     let v : ℕ = c.in-Some.used in
     let found : StepAt a rs p w v = found-step a c.args.marks.now rs p w v c.requires.marked
-        (λ e. subst (λ (z : List ℕ). ForcedOptional z (slice_get a.statements p) w v) c.deref.ensures.value (c.in-Some.ensures.needed e)) c.in-Some.ensures.other in
+    (λ e. subst (λ (z : List ℕ). ForcedOptional z (slice_get a.statements p) w v) c.deref.ensures.value (c.in-Some.ensures.needed e)) c.in-Some.ensures.other in
     subst (λ (z : List ℕ). ForwardTo a z c.push-in-Some.new.self.items (p + 1)) (sym c.in_ok-push-in-Some.ensures.items)
     (subst (λ (z : List ℕ). ForwardTo a (rs ++ w ∷ []) z (p + 1)) (sym c.in_ok-push-in-Some-2.ensures.items) (step a rs os p w v c.loop-position.invariant found))
 
