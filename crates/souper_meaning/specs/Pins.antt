@@ -96,11 +96,11 @@ is_among w s n = nat_lt (minus w n s.first) (size w s)
 abbrev pub fewer : ℕ → Span → Span → Span
 fewer w s t = if nat_le (size w s) (size w t) then s else t
 
--- those that are among both, where the second begin among the first
+-- the numbers among both, where the second span begins within the first
 abbrev pub begun : ℕ → Span → Span → Span
 begun w s t = if is_among w s (minus w t.end 1) then t else from_to t.first s.end
 
--- those that are among both; where these are two spans, or none, the fewer of both
+-- the numbers among both; where these are two spans, or none, the fewer of both
 abbrev pub common : ℕ → Span → Span → Span
 common w s t =
     if is_among w s t.first
@@ -119,7 +119,7 @@ abbrev pub pinned_by : WidthMap → ℕ → Span → Option Pin → Span
 pinned_by m p s None = s
 pinned_by m p s (Some q) = if nat_eq q.position p then shared (result_width m p) s q.numbers else s
 
--- those that all conditions of the statements leave
+-- the numbers that all conditions of the statements leave
 abbrev pub pinned_from : Item → WidthMap → ℕ → Span → List PlainStatement → Span
 pinned_from a m p s [] = s
 pinned_from a m p s (x ∷ xs) = pinned_from a m p (pinned_by m p s (pin_of a m x)) xs

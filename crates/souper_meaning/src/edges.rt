@@ -19,7 +19,7 @@ fn push_neighbours(edges: &mut Vec<u128>, constant: i128) -> Result<(), AllocErr
     Ok(())
 }
 
-/// Appends those of an operand.
+/// Appends the constant of an operand, if it is one, and its neighbours.
 fn push_operand(edges: &mut Vec<u128>, operand: Operand) -> Result<(), AllocError>
     ensures { OnOk result (edges.new.items ≡ edges.old.items ++ neighbours_of_operand operand) }
 {
@@ -29,7 +29,7 @@ fn push_operand(edges: &mut Vec<u128>, operand: Operand) -> Result<(), AllocErro
     }
 }
 
-/// Appends those of operands.
+/// Appends the constants among operands, and their neighbours.
 fn push_operands(edges: &mut Vec<u128>, operands: &[Operand]) -> Result<(), AllocError>
     ensures { OnOk result (edges.new.items ≡ edges.old.items ++ flat_map neighbours_of_operand operands.now) }
 {
@@ -39,7 +39,7 @@ fn push_operands(edges: &mut Vec<u128>, operands: &[Operand]) -> Result<(), Allo
     Ok(())
 }
 
-/// Appends those of a statement.
+/// Appends the constants of a statement, and their neighbours.
 fn push_statement(edges: &mut Vec<u128>, statement: &Statement) -> Result<(), AllocError>
     ensures { OnOk result (edges.new.items ≡ edges.old.items ++ neighbours_of_statement (view_statement statement.now)) }
 {
@@ -57,7 +57,7 @@ fn push_statement(edges: &mut Vec<u128>, statement: &Statement) -> Result<(), Al
     }
 }
 
-/// Appends those of the last lines.
+/// Appends the constants of the last lines, and their neighbours.
 fn push_ending(edges: &mut Vec<u128>, parts: &Parts<'_>) -> Result<(), AllocError>
     ensures { OnOk result (edges.new.items ≡ edges.old.items ++ flat_map neighbours_of_operand (root_operands (view_parts parts.now).ending)) }
 {

@@ -103,9 +103,9 @@ fn planned_refute(
 /// and the try's number give.
 ///
 /// The first tries give inputs the edges: 0, 1, -1, the constants of the item and their neighbours, powers of two and the numbers
-/// below them. Later ones give edges and random numbers, and every eighth input that may be poison is so. An input of which a
-/// condition says that it is a constant, or how it compares with one, gets a number that meets the condition, and no poison.
-/// Memory is allocated once, and none for each try.
+/// below them. Later ones give edges and random numbers, and every eighth input that may be poison is so. An input that a
+/// condition says to be a constant, or compares with one, gets a number that meets the condition, and no poison, if there is such a
+/// number. Of several conditions it meets one at least, and all if one span of numbers does. Memory is allocated once, and none for each try.
 ///
 /// Errors: as [`plan`] refuses the replacement, whatever the number of tries.
 pub fn refute(
